@@ -14,8 +14,7 @@ use std::{fs, io};
 pub struct MatchBeside {
     /// The path of its match file, as short as possible.
     pub path: String,
-    /// The port of the match.
-    pub port: u16,
+    pub file: MatchFile,
 }
 
 /// Returns the matches in the folders beside a folder, its own among them, as far as they can be
@@ -51,7 +50,7 @@ where
         if let Ok(Some(file)) = MatchFile::read(rt, path.as_str()) {
             matches.push(MatchBeside {
                 path: path.into_string(),
-                port: file.port,
+                file,
             })?;
         }
     }

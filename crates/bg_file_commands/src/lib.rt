@@ -35,6 +35,7 @@ mod new_folders;
 pub mod new_match;
 pub mod page;
 pub mod picture;
+mod played_by;
 mod ports_beside;
 pub mod recover;
 pub mod show;

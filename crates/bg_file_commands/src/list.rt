@@ -9,8 +9,9 @@ mod saves;
 mod times;
 
 use crate::list::aligning::aligned;
+pub(crate) use crate::list::examining::standing_in;
 use crate::list::examining::{Listed, Soundness, examine};
-use crate::list::locks::Locks;
+pub(crate) use crate::list::locks::Locks;
 use crate::list::objects::put_object;
 use crate::list::rows::put_row;
 use bg_console::{

@@ -1,7 +1,8 @@
 //! Creating a referee's folder.
 
 use bg_console::{
-    allocated, failed, failed_at, has_key_secret, own_folder, path_in, written, wrong,
+    allocated, failed, failed_at, has_key_secret, own_folder, path_in, without_slashes, written,
+    wrong,
 };
 use bg_dice::{Digest, digest_of, told_text, write_digest};
 use bg_reports::Ending;
@@ -18,6 +19,13 @@ use std::rt::Files;
 /// The files of a folder whose match is complete, or was begun: a folder with one of them is not
 /// new. Secrets and key files alone are those of a match that was never completed.
 const NAMES: [&str; 3] = ["match", "party-0.0", "party-0.1"];
+
+/// The holders of the key files, by the first party of each.
+const HOLDERS: [(u8, &str); 3] = [
+    (SEAT_OF_X, "X"),
+    (SEAT_OF_O, "O"),
+    (FIRST_WATCHER, "whoever may watch"),
+];
 
 /// Creates the folder where it is missing, and locks it. Ends with `WrongArguments` where it has
 /// files of a match, and with `Failed` where it can't be locked.
@@ -135,16 +143,12 @@ where
 
 /// Prints who is to be given which of the key files in the folder.
 pub(crate) fn tell_key_files<R: Print + Eprint>(rt: &R, folder: &str) -> Result<(), Ending> {
-    let folder = Printable(folder);
-    let (x, o, watch) = (
-        name_of_key_file(SEAT_OF_X),
-        name_of_key_file(SEAT_OF_O),
-        name_of_key_file(FIRST_WATCHER),
-    );
-    let told = println!(rt;
-        "hand {folder}/{x} to X, {folder}/{o} to O, and {folder}/{watch} to whoever may watch"
-    );
-    written(rt, told)
+    let folder = Printable(without_slashes(folder));
+    for (party, holder) in HOLDERS {
+        let name = name_of_key_file(party);
+        written(rt, println!(rt; "hand {folder}/{name} to {holder}"))?;
+    }
+    Ok(())
 }
 
 /// Prints that no key file needs to be handed out.

@@ -4,14 +4,14 @@ use crate::new_folders::{
     begin_folder, derived_keys, end_folder, make_secret_of_dice, make_secret_of_keys, tell_dice,
     tell_key_files,
 };
+use crate::played_by::tell_commands;
 use crate::ports_beside::check_ports;
 use bg_console::{failed_or, written};
 use bg_dice::Digest;
 use bg_match::Terms;
 use bg_options::NewOptions;
 use bg_reports::Ending;
-use bg_system::{MatchFile, NamedMatch, Names, Printable, name_of_key_file};
-use bg_wire::SEAT_OF_X;
+use bg_system::{MatchFile, NamedMatch, Names};
 use std::fs;
 use std::fs::File;
 use std::random::RandomSource;
@@ -20,7 +20,7 @@ use std::rt::Files;
 /// What to do where the system gives no random bytes.
 const ELSEWHERE: &str = "; run it where the system lets a process call `getrandom`";
 
-/// Makes the match that the options name, and prints its line.
+/// Makes the match that the options name, and prints its line, and how it is played.
 pub fn run<R>(rt: &R, options: NewOptions<'_>) -> Result<Ending, Ending>
 where
     R: Files<File = File> + RandomSource + Print + Eprint + AllocGlobal,
@@ -38,15 +38,6 @@ where
     tell_commands(rt, folder)?;
     tell_dice(rt, &digest)?;
     Ok(Ending::Served)
-}
-
-/// Prints the commands by which the match is played.
-fn tell_commands<R: Print + Eprint>(rt: &R, folder: &str) -> Result<(), Ending> {
-    let (folder, x) = (Printable(folder), name_of_key_file(SEAT_OF_X));
-    let told = println!(rt;
-        "run it by `bg_relay referee --dir {folder}`; X plays by `bg_relay play --match {folder}/{x} --dir x`, and O likewise"
-    );
-    written(rt, told)
 }
 
 /// Makes the secrets first, and the match file last, so that where there is one the match is

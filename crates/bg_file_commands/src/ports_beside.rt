@@ -1,37 +1,72 @@
 //! The ports of the matches beside a folder.
 
-use bg_console::{MatchBeside, matches_beside, wrong};
+use crate::list::{Locks, standing_in};
+use bg_console::{MatchBeside, folder_of, matches_beside, no_memory, wrong};
+use bg_match::{Phase, Standing};
 use bg_reports::Ending;
 use bg_system::Printable;
 use std::fs::File;
+use std::io;
 use std::rt::Files;
 
 /// Number of ports of a match, from its own on.
 const PORTS: u16 = 256;
 
 /// Refuses the port of a match that is to be made in this folder, where its ports overlap those of
-/// a match in another folder beside it. What can't be read there counts as no match.
+/// a match in another folder beside it that is not over. What can't be read there counts as no
+/// match.
 pub(crate) fn check_ports<R>(rt: &R, folder: &str, port: u16) -> Result<(), Ending>
 where
     R: Files<File = File> + Eprint + AllocGlobal,
 {
     for other in matches_beside(rt, folder)?.iter() {
-        check_apart(rt, port, other)?;
+        if port.abs_diff(other.file.port) < PORTS {
+            check_over(rt, other)?;
+        }
     }
     Ok(())
 }
 
-/// Refuses a port that is less than 256 apart from that of this match.
-fn check_apart(rt: &impl Eprint, port: u16, other: &MatchBeside) -> Result<(), Ending> {
-    if port.abs_diff(other.port) >= PORTS {
-        return Ok(());
+/// Refuses the ports of this match, unless it is over and no process has its folder.
+fn check_over<R>(rt: &R, other: &MatchBeside) -> Result<(), Ending>
+where
+    R: Files<File = File> + Eprint + AllocGlobal,
+{
+    match is_done(rt, other) {
+        Ok(true) => Ok(()),
+        Ok(false) => Err(taken(rt, other)),
+        Err(_) => Err(no_memory(rt)),
     }
-    let (shown, first) = (Printable(other.path.as_str()), other.port);
+}
+
+/// Returns whether a match is over, and no process has its folder.
+///
+/// # Errors
+/// `OutOfMemory` alone.
+fn is_done<R>(rt: &R, other: &MatchBeside) -> io::Result<bool>
+where
+    R: Files<File = File> + AllocGlobal,
+{
+    let folder = folder_of(other.path.as_str());
+    match standing_in(rt, folder, &other.file) {
+        Ok(Some(standing)) if is_over(&standing) => Ok(!Locks::read(rt).have(rt, folder)?),
+        Ok(_) => Ok(false),
+        Err(error) => Err(error),
+    }
+}
+
+fn is_over(standing: &Standing) -> bool {
+    matches!(standing.phase(), Phase::Over(_))
+}
+
+/// Reports that this match has the ports.
+fn taken(rt: &impl Eprint, other: &MatchBeside) -> Ending {
+    let (shown, first) = (Printable(other.path.as_str()), other.file.port);
     let last = first.saturating_add(PORTS - 1);
-    Err(wrong(
+    wrong(
         rt,
         format_args!(
             "the match of {shown} has the ports {first} to {last}: choose a port that is 256 above or below"
         ),
-    ))
+    )
 }

@@ -27,8 +27,8 @@ pub(crate) const THREE_TERMINALS: &str =
 
     bg_relay new --length 3 --port 4000 --dir table
     bg_relay referee --dir table
-    bg_relay play --match table/match-x --dir x
-    bg_relay play --match table/match-o --dir o
+    bg_relay play --match table/match-x --dir table-x
+    bg_relay play --match table/match-o --dir table-o
 
 The first two go into one terminal. Whoever has table/match-watch can watch:
 bg_relay watch --match table/match-watch. You can stop and restart each process at any moment.";
@@ -181,11 +181,12 @@ fn named(text: Option<&str>) -> Option<Name> {
     }
 }
 
-pub(crate) const MATCH: Argument = Argument {
+/// The option for the key file of a seat.
+pub(crate) const SEAT_KEY: Argument = Argument {
     name: "match",
     kind: Kind::Text("FILE"),
     need: Need::Required,
-    about: "The key file that `new` made for the player, or for the watchers",
+    about: "The player's key file, `match-x` or `match-o`, which `new` made",
 };
 
 /// The option to log only errors.

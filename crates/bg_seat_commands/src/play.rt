@@ -3,6 +3,7 @@
 mod choosing;
 mod help;
 mod joining;
+mod kept_choices;
 mod moves;
 mod opponents;
 mod players;

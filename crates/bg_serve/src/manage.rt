@@ -1,6 +1,6 @@
 //! The command by which an operator changes the matches in a folder, also while they are served.
 
-use crate::tables::Tables;
+use crate::tables::{Tables, check_of_all};
 use bg_board::Player;
 use bg_console::{check_folder, failed_at, failed_for, say, written, wrong};
 use bg_options::{ManageOptions, Management};
@@ -25,6 +25,7 @@ pub fn run(rt: &HostRuntime, options: ManageOptions<'_>) -> Result<Ending, Endin
         return Err(wrong(rt, NOTHING));
     };
     check_folder(rt, folder, " is no folder: name the one that `serve` has")?;
+    check_of_all(rt, folder)?;
     let lock = lock_unless_served(rt, folder)?;
     let tables = Tables {
         rt,

@@ -1,6 +1,7 @@
 //! The command that serves matches to browsers.
 
 use crate::servers::Server;
+use crate::tables::check_of_all;
 use bg_console::{failed, failed_or, own_folder, say, say_failures};
 use bg_options::ServeOptions;
 use bg_processes::{Failures, Printable};
@@ -25,6 +26,7 @@ pub fn run(rt: &HostRuntime, options: ServeOptions<'_>) -> Result<Ending, Ending
         idle_hours,
         tells_requests,
     } = options;
+    check_of_all(rt, folder)?;
     let _lock = own_folder(rt, folder)?;
     let failures = Failures::new();
     let mut server = match Server::begin(rt, folder, port, &failures) {

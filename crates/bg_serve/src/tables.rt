@@ -5,16 +5,36 @@ use crate::changes::tell_change;
 use crate::marks::{hide, show};
 use crate::seat_files::{random_digits, read_seats, replace_seat};
 use bg_board::Player;
-use bg_console::path_in;
+use bg_console::{allocated, path_in, wrong_at};
 use bg_processes::{NamedMatch, Names};
+use bg_reports::Ending;
 use bg_requests::is_name;
 use std::fs::{DirBuilder, File};
 use std::io::ErrorKind;
 use std::os::unix::fs::DirBuilderExt;
 use std::{fs, io};
 
+/// The files of which the folder of one match has at least one.
+const OF_A_MATCH: [&str; 3] = ["match", "party-0.0", "party-0.1"];
+
 /// A folder for its owner alone.
 const OWNER_ALONE: u32 = 0o700;
+
+/// Refuses the folder of one match, where that of all matches is asked for. Ends with
+/// `WrongArguments`.
+pub(crate) fn check_of_all(rt: &HostRuntime, folder: &str) -> Result<(), Ending> {
+    for name in OF_A_MATCH {
+        let path = allocated(rt, path_in(rt.alloc(), folder, name))?;
+        if fs::metadata(rt, path.as_str()).is_ok_and(|found| found.is_file()) {
+            return Err(wrong_at(
+                rt,
+                folder,
+                " is the folder of one match: name the folder above it",
+            ));
+        }
+    }
+    Ok(())
+}
 
 /// The folder of all matches.
 #[derive(Clone, Copy)]

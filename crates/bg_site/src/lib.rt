@@ -13,6 +13,7 @@
 //! ```
 #![tactic(auto)]
 
+mod acted;
 mod addresses;
 mod answering;
 mod archives;

@@ -6,8 +6,6 @@ use crate::peers::Peer;
 use crate::sites::Site;
 use crate::stores::Store;
 use bg_board::Player;
-use bg_hosted::Acted;
-use bg_party::ChooseFault;
 use bg_requests::{Message, parse_message};
 use bg_states::put_quoted;
 use bg_text::{parse_action, put_number, put_text};
@@ -98,9 +96,9 @@ impl<K: Keeper + Drop, S: Store<K> + Drop> Site<K, S> {
         put_number(&mut out, number.into())?;
         match parse_action(words.as_bytes()) {
             Ok(action) => {
-                let acted = self.act(index, player, number, action);
+                let acted = self.act(index, player, number, action.copy());
                 self.counts.note(acted);
-                put_text(&mut out, acted_words(acted))?;
+                self.put_acted(&mut out, index, player, &action, acted)?;
             }
             Err(fault) => {
                 put_text(&mut out, ",\"no\":")?;
@@ -109,17 +107,5 @@ impl<K: Keeper + Drop, S: Store<K> + Drop> Site<K, S> {
         }
         put_text(&mut out, "}")?;
         Ok(out)
-    }
-}
-
-/// Returns the answer to an action.
-fn acted_words(acted: Acted) -> &'static str {
-    match acted {
-        Acted::Done => ",\"done\":true",
-        Acted::Waits | Acted::Refused(ChooseFault::AlreadyClaimed) => ",\"waits\":true",
-        Acted::OtherEntry => ",\"no\":\"another entry\"",
-        Acted::Refused(ChooseFault::NotYourTurn) => ",\"no\":\"not your turn\"",
-        Acted::Refused(ChooseFault::Illegal(_)) => ",\"no\":\"not legal\"",
-        Acted::Failed => ",\"no\":\"not saved: try again\"",
     }
 }

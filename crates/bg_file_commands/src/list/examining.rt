@@ -151,6 +151,24 @@ where
     })
 }
 
+/// Returns the standing of a match in the saves of a folder, if they hold one.
+///
+/// # Errors
+/// `OutOfMemory` alone.
+pub(crate) fn standing_in<R>(
+    rt: &R,
+    folder: &str,
+    table: &MatchFile,
+) -> io::Result<Option<Standing>>
+where
+    R: Files<File = File> + AllocGlobal,
+{
+    match settled(rt, folder, table) {
+        Ok(held) => Ok(held.standing),
+        Err(error) => Err(error),
+    }
+}
+
 /// Returns what the saves of a folder hold, leaving out a save that is being written.
 fn settled<R>(rt: &R, folder: &str, table: &MatchFile) -> io::Result<Held>
 where

@@ -8,6 +8,10 @@ use bg_system::{MatchFile, NamedMatch, Names, Printable};
 use bg_text::{put_number, put_phase, put_text};
 use std::alloc::{AllocError, Global};
 
+/// The heading of the lines, whose parts are still to be aligned.
+pub(crate) const HEADING: &str =
+    "FOLDER\tMATCH\tPLAYERS\tSCORE\tGAME\tNEXT\tENTRIES\tLAST SAVE\tOPEN\tFILES";
+
 /// The mark in place of an empty part.
 pub(crate) const NOTHING: &str = "-";
 
@@ -16,11 +20,11 @@ pub(crate) fn put_row(alloc: Global, out: &mut Vec<u8>, listed: &Listed) -> Resu
     let path = format!(in alloc; "{}\t", Printable(listed.path.as_str()))?;
     put_text(out, path.as_str())?;
     if let Some(NamedMatch { table, names }) = &listed.file {
-        put_numbered(out, "match ", table.id, "\t")?;
+        put_numbered(out, "", table.id, "\t")?;
         put_names(alloc, out, names)?;
         if let Some(standing) = &listed.standing {
             put_standing(out, table, standing)?;
-            put_numbered(out, "", listed.entries.into(), " entries\t")?;
+            put_numbered(out, "", listed.entries.into(), "\t")?;
             put_changed(alloc, out, listed.changed)?;
             put_text(out, if listed.is_open { "open" } else { NOTHING })?;
             put_text(out, "\t")?;
@@ -60,7 +64,7 @@ fn put_standing(
     put_numbered(out, "", x.into(), "-")?;
     put_numbered(out, "", o.into(), " of ")?;
     put_numbered(out, "", table.terms.length.into(), "\t")?;
-    put_numbered(out, "game ", standing.game().into(), "\t")?;
+    put_numbered(out, "", standing.game().into(), "\t")?;
     put_phase(out, standing)?;
     put_text(out, "\t")
 }

@@ -2,7 +2,7 @@
 
 use crate::arguments::{Argument, Description, Kind, Need};
 use crate::commands::play::SeatOptions;
-use crate::shared::{FOLDER, MATCH, PLAYER, THREE_TERMINALS, number_in};
+use crate::shared::{FOLDER, PLAYER, SEAT_KEY, THREE_TERMINALS, number_in};
 use bg_match::{MOST_ENTRIES, Number};
 use clap::ArgMatches;
 
@@ -69,5 +69,5 @@ pub(crate) const COMMAND: Description = Description {
     about: "Make one action, for scripts",
     long_about: ABOUT_ACT,
     after_help: Some(THREE_TERMINALS),
-    arguments: &[PLAYER, MATCH, FOLDER, SECONDS, ENTRY, ACTION],
+    arguments: &[PLAYER, SEAT_KEY, FOLDER, SECONDS, ENTRY, ACTION],
 };

@@ -1,7 +1,7 @@
 //! The options and help of the command that plays for a player until the match is over.
 
 use crate::arguments::Description;
-use crate::shared::{FOLDER, MATCH, PLAYER, THREE_TERMINALS};
+use crate::shared::{FOLDER, PLAYER, SEAT_KEY, THREE_TERMINALS};
 
 /// The help on `auto`.
 const ABOUT_AUTO: &str =
@@ -17,5 +17,5 @@ pub(crate) const COMMAND: Description = Description {
     about: "Let an automatic player play a match",
     long_about: ABOUT_AUTO,
     after_help: Some(THREE_TERMINALS),
-    arguments: &[PLAYER, MATCH, FOLDER],
+    arguments: &[PLAYER, SEAT_KEY, FOLDER],
 };

@@ -9,13 +9,14 @@ const ABOUT_LIST: &str =
 folders below them.
 
     $ bg_relay list .
-    ./anna  match 7132  3-1 of 7  game 5  X to roll  120 entries  2026-11-27T09:21:40Z  open  saved
-    ./otto  match 4402  0-2 of 5  game 2  O to roll  98 entries   2026-11-26T21:03:10Z  -     saved
+    FOLDER  MATCH  SCORE     GAME  NEXT       ENTRIES  LAST SAVE             OPEN  FILES
+    ./anna  7132   3-1 of 7  5     X to roll  120      2026-11-27T09:21:40Z  open  saved
+    ./otto  4402   0-2 of 5  2     O to roll  98       2026-11-26T21:03:10Z  -     saved
 
 A line has the folder, the number of the match, the points of X and O and the length, the game,
 what comes next, how many entries the referee has saved, and the time of its last save, in UTC.
 `open` means that a process has locked the folder, as far as the system tells. The last field is
-`saved` if the newest save is whole; otherwise it says what is wrong.
+`saved` if the newest save is whole; otherwise it says what is wrong. The first line is a heading.
 
 A folder or file that can't be read has a line too, with the reason. Links to folders are not
 followed. It takes no lock and writes nothing, so the matches can go on meanwhile.

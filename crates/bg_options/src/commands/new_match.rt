@@ -24,7 +24,7 @@ bytes, no control characters, none that change the direction of text, and no bla
 Programs older than names can't read the files of a match that has them.
 
 Exit status: 0 for success; 2 if a name is refused, DIR has a match already, or a match beside it
-uses one of these ports; 1 if reading, writing or memory failed.";
+that isn't over uses one of these ports; 1 if reading, writing or memory failed.";
 
 /// A new match between processes, and the place of its files.
 #[derive(Clone, Copy)]

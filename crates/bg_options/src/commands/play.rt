@@ -1,7 +1,7 @@
 //! The options and help of the command of a person who plays at a terminal.
 
 use crate::arguments::{Argument, Description, Kind, Need};
-use crate::shared::{FOLDER, MATCH, PLAYER, THREE_TERMINALS, number_in, player_in};
+use crate::shared::{FOLDER, PLAYER, SEAT_KEY, THREE_TERMINALS, number_in, player_in};
 use bg_board::Player;
 use clap::ArgMatches;
 
@@ -82,5 +82,5 @@ pub(crate) const COMMAND: Description = Description {
     about: "Play a match at this terminal",
     long_about: ABOUT_PLAY,
     after_help: Some(THREE_TERMINALS),
-    arguments: &[PLAYER, MATCH, FOLDER, COLUMNS, FORCED],
+    arguments: &[PLAYER, SEAT_KEY, FOLDER, COLUMNS, FORCED],
 };

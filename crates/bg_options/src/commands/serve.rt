@@ -24,7 +24,7 @@ Logs on standard error that it has started, that matches are made, and what fail
 is stopped.
 
 Exit status: 1 if the port is taken, another process serves DIR, or reading, writing or memory
-failed; 2 if DIR is not a folder.";
+failed; 2 if DIR is not a folder, or is the folder of one match.";
 
 /// The folder to serve, and the port.
 #[derive(Clone, Copy)]

@@ -1,7 +1,7 @@
 //! The options and help of the command that watches a match.
 
 use crate::arguments::{Argument, Description, Kind, Need};
-use crate::shared::{MATCH, NUMBERING, QUIET_LOG, THREE_TERMINALS, TITLE, numbering_in, title_in};
+use crate::shared::{NUMBERING, QUIET_LOG, THREE_TERMINALS, TITLE, numbering_in, title_in};
 use bg_picture::Numbering;
 use clap::ArgMatches;
 
@@ -24,7 +24,7 @@ match file is invalid.";
 /// The match to watch, and the files that are kept of it.
 #[derive(Clone, Copy)]
 pub struct WatchOptions<'a> {
-    /// The path of the match file.
+    /// The path of the watchers' key file.
     pub match_path: &'a str,
     pub board: Option<&'a str>,
     pub transcript: Option<&'a str>,
@@ -56,6 +56,13 @@ impl<'a> WatchOptions<'a> {
         })
     }
 }
+
+const MATCH: Argument = Argument {
+    name: "match",
+    kind: Kind::Text("FILE"),
+    need: Need::Required,
+    about: "The watchers' key file, `match-watch`, which `new` made",
+};
 
 const BOARD: Argument = Argument {
     name: "board",

@@ -14,7 +14,7 @@ use std::time::Clock;
 const ON_TURN: [(&str, &str); 7] = [
     ("roll, double", "or r, d"),
     ("take, drop", "or t, p: after the other player's double"),
-    ("accept, reject", "or a, n: after an offer to resign"),
+    ("accept, reject", "or y, n: after an offer to resign"),
     ("resign", "at a level: normal, gammon or backgammon"),
     (
         "8/5 6/5",

@@ -3,6 +3,7 @@
 use crate::foreign_entries::NOT_CHOSEN;
 use crate::play::Table;
 use crate::play::joining::Joining;
+use crate::play::kept_choices::kept_text;
 use crate::play::players::{named_score, players_text};
 use crate::seats::Round;
 use bg_command_parts::Silence;
@@ -10,7 +11,7 @@ use bg_console::{allocated, put_entries, written};
 use bg_match::{Actor, Number};
 use bg_processes::{Going, LivenessChange};
 use bg_reports::Ending;
-use bg_table::{Drawing, prompt_text, result_text, seat_view_text, waiting_text};
+use bg_table::{Drawing, prompt_text, result_text, seat_view_text};
 use std::alloc::{AllocError, Global};
 use std::fs::File;
 use std::net::Net;
@@ -115,8 +116,8 @@ where
     /// Prints whose turn it is and what the player may do, or that their choice waits.
     pub(super) fn prompt(&self) -> Result<(), Ending> {
         let rt = self.rt;
-        if let Some((number, _)) = self.seat.process.open_claim() {
-            let text = allocated(rt, waiting_text(rt.alloc(), number))?;
+        if let Some((_, action)) = self.seat.process.open_claim() {
+            let text = allocated(rt, kept_text(rt.alloc(), self.player, &action))?;
             return self.screen.say(&text);
         }
         let Some(record) = self.seat.process.held() else {

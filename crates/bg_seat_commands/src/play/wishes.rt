@@ -44,7 +44,7 @@ enum Word {
 }
 
 /// The words that may be typed, each with its request.
-const WORDS: [(&[u8], Word); 27] = [
+const WORDS: [(&[u8], Word); 30] = [
     (b"", Word::Nothing),
     (b"?", Word::Help),
     (b"h", Word::Help),
@@ -69,8 +69,11 @@ const WORDS: [(&[u8], Word); 27] = [
     (b"pass", Word::Drop),
     (b"drop", Word::Drop),
     (b"a", Word::Accept),
+    (b"y", Word::Accept),
+    (b"yes", Word::Accept),
     (b"accept", Word::Accept),
     (b"n", Word::Reject),
+    (b"no", Word::Reject),
     (b"reject", Word::Reject),
 ];
 

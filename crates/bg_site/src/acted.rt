@@ -1,0 +1,69 @@
+//! The words on what came of an action.
+
+use crate::sites::Site;
+use crate::stores::Store;
+use bg_board::Player;
+use bg_hosted::Acted;
+use bg_match::{Action, EntryFault, Record};
+use bg_party::ChooseFault;
+use bg_states::put_quoted;
+use bg_table::refusal_text;
+use bg_text::put_text;
+use bg_world::Keeper;
+use std::alloc::{AllocError, Global};
+
+impl<K: Keeper + Drop, S: Store<K> + Drop> Site<K, S> {
+    /// Appends what came of an action of a player in the match at a place. Where the rules refuse
+    /// it, the reason follows.
+    pub(crate) fn put_acted(
+        &self,
+        out: &mut Vec<u8>,
+        index: usize,
+        player: Player,
+        action: &Action,
+        acted: Acted,
+    ) -> Result<(), AllocError> {
+        put_text(out, acted_words(acted))?;
+        match (acted, self.held_at(index)) {
+            (Acted::Refused(ChooseFault::Illegal(fault)), Some(record)) => {
+                put_reason(self.alloc, out, record, player, action, fault)
+            }
+            _ => Ok(()),
+        }
+    }
+
+    /// Returns the record of the match at a place, while it goes on.
+    fn held_at(&self, index: usize) -> Option<&Record> {
+        match self.places.get(index) {
+            Some(place) => place.held(),
+            None => None,
+        }
+    }
+}
+
+/// Appends why an action can't follow a record, in the words that a player at a terminal is told.
+fn put_reason(
+    alloc: Global,
+    out: &mut Vec<u8>,
+    record: &Record,
+    player: Player,
+    action: &Action,
+    fault: EntryFault,
+) -> Result<(), AllocError> {
+    let text = refusal_text(alloc, &record.standing(), player, action, fault)?;
+    let line = text.split(|byte| *byte == b'\n').next().unwrap_or_default();
+    put_text(out, ",\"reason\":")?;
+    put_quoted(out, str::from_utf8(line).unwrap_or_default())
+}
+
+/// Returns the answer to an action.
+fn acted_words(acted: Acted) -> &'static str {
+    match acted {
+        Acted::Done => ",\"done\":true",
+        Acted::Waits | Acted::Refused(ChooseFault::AlreadyClaimed) => ",\"waits\":true",
+        Acted::OtherEntry => ",\"no\":\"another entry\"",
+        Acted::Refused(ChooseFault::NotYourTurn) => ",\"no\":\"not your turn\"",
+        Acted::Refused(ChooseFault::Illegal(_)) => ",\"no\":\"not legal\"",
+        Acted::Failed => ",\"no\":\"not saved: try again\"",
+    }
+}
