@@ -12,6 +12,7 @@ pub mod Slots
 pub mod Turns
 pub mod Openings
 pub mod PartyCalls
+pub mod Peers
 pub mod EntryLines
 pub mod PartyTexts
 pub mod Claims
@@ -19,3 +20,7 @@ pub mod Options
 pub mod Standings
 pub mod Verdicts
 pub mod Transcripts
+pub mod MatchFiles
+pub mod Pictures
+pub mod Ids
+pub mod Checks

@@ -13,6 +13,7 @@ ghost use Rattle.bg_c.specs.declared.statuses.Status.TheVariants as status;
 pub(crate) mod claims;
 pub(crate) mod openings;
 pub(crate) mod options;
+pub(crate) mod peers;
 pub(crate) mod play;
 pub(crate) mod saves;
 pub(crate) mod texts;

@@ -22,6 +22,8 @@ choose roll: NOT_OPEN 99 99
 try 1 roll: NOT_OPEN 99 99
 options: NOT_OPEN 999
 take WANT: NOT_OPEN 99 99 99; kept
+take_from 3 WANT: NOT_OPEN 99 99 99; kept
+heard 3 0: NOT_OPEN 99 99 99; kept
 tick: NOT_OPEN; kept; kept
 
 a_handle_that_is_not_open_saves_nothing

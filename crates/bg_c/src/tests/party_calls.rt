@@ -5,6 +5,7 @@ use crate::handle::Handle;
 use crate::outcomes::Outcome;
 use crate::parties::bg_proved_party_close;
 use crate::parties::openings::{bg_proved_party_begin, bg_proved_party_resume};
+use crate::parties::peers::{bg_proved_party_take_from, bg_proved_referee_heard};
 use crate::parties::play::{
     bg_proved_party_take, bg_proved_party_tick, bg_proved_referee_due, bg_proved_seat_choose,
 };
@@ -14,8 +15,9 @@ use crate::parties::texts::{
 };
 use crate::tests::calls::{NO_SAVED, is_saved, size};
 use crate::tests::claim_calls::{claims, tries};
+use crate::tests::named_bytes::bytes_of;
 use crate::tests::shown_calls::writes_lines;
-use crate::tests::words::{BLANK, are_numbers, bytes_of, is_given, number, parted, word};
+use crate::tests::words::{BLANK, are_numbers, is_given, number, parted, word};
 use std::alloc::Global;
 use std::process::Abort;
 
@@ -44,6 +46,14 @@ fn sends(datagram: &Datagram, to: u32, bytes: &[u8]) -> bool {
     let is_blank = datagram.reserved == NOTHING.reserved;
     is_whole && is_blank && packet == bytes && NOTHING.bytes.starts_with(rest)
 }
+
+/// An outcome that no call sets.
+const NO_OUTCOME: Outcome = Outcome {
+    kind: 99,
+    number: 99,
+    why: 99,
+    reserved: [99; 5],
+};
 
 /// Returns whether a datagram is this one: `OPENING to 3`, `nothing`, or `kept` where no call has
 /// set it.
@@ -122,17 +132,40 @@ fn is_outcome(rt: &impl Abort, status: u32, outcome: &Outcome, numbers: &str) ->
     are_numbers(rt, &found, numbers)
 }
 
-/// Checks a line such as `take WANT: OK 2 0 0; OPENING to 3`. It gives the packet; after the colon
-/// come the status, the kind, number and reason of the outcome, and the answer.
-fn takes(rt: &impl Abort, alloc: Global, handle: &mut Handle, words: &str, wanted: &str) -> bool {
-    let mut outcome = Outcome {
-        kind: 99,
-        number: 99,
-        why: 99,
-        reserved: [99; 5],
-    };
-    let mut answer = NO_DATAGRAM;
-    let status = bg_proved_party_take(alloc, handle, bytes_of(words), 0, &mut outcome, &mut answer);
+/// Makes the call of this name, which takes a packet, or hears of a peer.
+fn take(
+    rt: &impl Abort,
+    alloc: Global,
+    handle: &mut Handle,
+    name: &str,
+    words: &str,
+    outcome: &mut Outcome,
+    answer: &mut Datagram,
+) -> u32 {
+    if name == "take" {
+        return bg_proved_party_take(alloc, handle, bytes_of(words), 0, outcome, answer);
+    }
+    let (one, other) = (number(rt, words, 0), word(rt, words, 1));
+    if name == "take_from" {
+        let packet = bytes_of(other);
+        return bg_proved_party_take_from(alloc, handle, one, packet, 0, outcome, answer);
+    }
+    bg_proved_referee_heard(alloc, handle, one, number(rt, words, 1), outcome, answer)
+}
+
+/// Checks a line such as `take WANT: OK 2 0 0; OPENING to 3`, `take_from 3 WANT: ..` or
+/// `heard 3 0: ..`. It gives the packet, the sender and the packet, or the peer and what it holds;
+/// after the colon come the status, the kind, number and reason of the outcome, and the answer.
+fn takes(
+    rt: &impl Abort,
+    alloc: Global,
+    handle: &mut Handle,
+    name: &str,
+    words: &str,
+    wanted: &str,
+) -> bool {
+    let (mut outcome, mut answer) = (NO_OUTCOME, NO_DATAGRAM);
+    let status = take(rt, alloc, handle, name, words, &mut outcome, &mut answer);
     let (numbers, sent) = parted(rt, wanted, "; ");
     is_outcome(rt, status, &outcome, numbers) && is_datagram(rt, &answer, sent)
 }
@@ -211,7 +244,7 @@ pub(crate) fn played(
         "choose" => Some(chooses(rt, alloc, handle, words, wanted)),
         "claim" => Some(claims(rt, alloc, handle, words, wanted)),
         "try" => Some(tries(rt, alloc, handle, words, wanted)),
-        "take" => Some(takes(rt, alloc, handle, words, wanted)),
+        "take" | "take_from" | "heard" => Some(takes(rt, alloc, handle, name, words, wanted)),
         "lines" => Some(writes_lines(rt, alloc, handle, words, wanted)),
         "tick" => Some(ticks(rt, alloc, handle, wanted)),
         _ => None,
