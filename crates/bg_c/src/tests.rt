@@ -7,6 +7,7 @@ mod judging;
 mod named_bytes;
 mod number_calls;
 mod openings;
+mod packet_calls;
 mod packets;
 mod party_calls;
 mod peers;
