@@ -27,7 +27,7 @@
  *   bg_abi() == BG_ABI && bg_version() >= BG_VERSION. The shared library is named by BG_ABI, as libbg_relay.so.2.
  *   Version 201 added bg_party_options, bg_party_claim and bg_party_try. Version 202 added bg_party_told,
  *   bg_party_entries_text and bg_party_standing. Version 203 added bg_party_take_from and bg_referee_heard,
- *   bg_parties_tick, bg_mat_import and bg_mat_export, bg_picture and bg_page, bg_position_id, bg_match_id and bg_xgid,
+ *   bg_party_shown, bg_parties_tick, bg_mat_import and bg_mat_export, bg_picture and bg_page, bg_position_id, bg_match_id and bg_xgid,
  *   and bg_check.
  * Many servers.  Several processes may run one party at once if their store takes a save only where its number (*save)
  *   is one more than that of the newest save of this party, in one statement with the text. After a refusal close the
@@ -329,6 +329,17 @@ typedef struct bg_standing {
 /* Where the match stands by the record, by all entries that the party holds; after the match, as it ended. Of a referee
  * it counts entries that are not saved yet: see bg_party_told. */
 bg_status bg_party_standing(const bg_party *party, bg_standing *standing);
+typedef struct bg_shown {
+    uint32_t entries;          /* that the party may show to others, as bg_party_told says */
+    uint32_t held;             /* entries that it holds: where these are more, a referee has to save */
+    uint32_t claim;            /* of a seat: the number of its last claim, which waits for its answer where that is more
+                                * than `held`; 0 where there is none */
+    uint32_t reserved[5];
+    bg_standing standing;      /* where the match stands after the entries that the party may show */
+} bg_shown;
+/* What a party may show to others, in one call: its struct, and the transcript of the entries that are told. Nothing in
+ * either counts an entry that a referee has not saved, but for `held`. *shown is set where the answer is BG_OK. */
+bg_status bg_party_shown(const bg_party *party, bg_shown *shown, uint8_t *out, size_t room, size_t *needed);
 
 typedef struct bg_datagram {
     uint32_t to;               /* the party that it goes to */

@@ -33,6 +33,7 @@ BG_HIDDEN bg_status bg_proved_party_entries_text(bg_inner *party, uint32_t from,
                                                  size_t room, size_t *needed);
 BG_HIDDEN bg_status bg_proved_party_actor(bg_inner *party, uint32_t *actor);
 BG_HIDDEN bg_status bg_proved_party_standing(bg_inner *party, bg_standing *standing);
+BG_HIDDEN bg_status bg_proved_party_shown(bg_inner *party, bg_shown *shown, uint8_t *out, size_t room, size_t *needed);
 BG_HIDDEN bg_status bg_proved_referee_due(bg_inner *party, uint32_t word, uint32_t *number);
 BG_HIDDEN bg_status bg_proved_party_take(bg_inner *party, const uint8_t *packet, size_t length, uint32_t word,
                                          bg_outcome *outcome, bg_datagram *answer);
@@ -207,6 +208,11 @@ bg_status bg_party_actor(const bg_party *party, uint32_t *actor) {
 bg_status bg_party_standing(const bg_party *party, bg_standing *standing) {
     bg_party *it = writable(party);
     WITHIN(it, bg_proved_party_standing(inner(it), standing));
+}
+
+bg_status bg_party_shown(const bg_party *party, bg_shown *shown, uint8_t *out, size_t room, size_t *needed) {
+    bg_party *it = writable(party);
+    WITHIN(it, bg_proved_party_shown(inner(it), shown, out, room, needed));
 }
 
 bg_status bg_party_options(const bg_party *party, uint32_t *options) {

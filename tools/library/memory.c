@@ -24,6 +24,7 @@ struct answers {
     bg_packet packet;
     bg_saved saved;
     bg_peeked peeked;
+    bg_shown shown;
     bg_outcome outcome;
     bg_datagram first, second;
 };
@@ -104,6 +105,9 @@ static bg_status transcript(void) {
 static bg_status lines(void) {
     return bg_party_entries_text(&run.watcher, 1, 2, run.now.out, ROOM, &run.now.needed);
 }
+static bg_status show(void) {
+    return bg_party_shown(&run.referee, &run.now.shown, run.now.out, ROOM, &run.now.needed);
+}
 static bg_status read_slots(void) {
     return bg_slots_read(1, 1, 1, 1, NULL, 0, run.saved_text, run.saved_length, &run.now.saved);
 }
@@ -167,7 +171,7 @@ static const step STEPS[] = {
     open_referee, open_seat, open_watcher, due, save_referee, mark_referee, tick_seat, packet_read, referee_takes,
     seat_takes, turns, choose, claim, try_action, save_seat, mark_seat, read_slots, peek, tick_seat, referee_takes,
     save_referee, mark_referee,
-    tick_watcher, referee_takes, watcher_takes, board, transcript, lines, referee_hears, open_again, turns, judge, judge_without_room,
+    tick_watcher, referee_takes, watcher_takes, board, transcript, lines, show, referee_hears, open_again, turns, judge, judge_without_room,
     transcript_board, transcript_turns, import_file, export_file, position_id, match_id, xgid, report,
     picture_without_room, page_without_room, status_text,
 };

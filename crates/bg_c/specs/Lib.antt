@@ -18,6 +18,7 @@ pub mod PartyTexts
 pub mod Claims
 pub mod Options
 pub mod Standings
+pub mod Shown
 pub mod Verdicts
 pub mod Transcripts
 pub mod MatchFiles

@@ -14,6 +14,7 @@ board 8: NOT_OPEN 99; kept
 transcript 8: NOT_OPEN 99; kept
 turns 8: NOT_OPEN 99; kept
 lines 8 1 1: NOT_OPEN 99; kept
+shown 8: NOT_OPEN 99 99 99 99 99 99; kept
 claim 8: NOT_OPEN 99 99; kept
 
 a_handle_that_is_not_open_does_nothing

@@ -12,7 +12,7 @@ use crate::tests::calls::{NO_SAVED, is_saved, size};
 use crate::tests::claim_calls::{claims, tries};
 use crate::tests::named_bytes::bytes_of;
 use crate::tests::packet_calls::{takes, ticks};
-use crate::tests::shown_calls::writes_lines;
+use crate::tests::shown_calls::{shows, writes_lines};
 use crate::tests::words::{BLANK, are_numbers, is_given, number, word};
 use std::alloc::Global;
 use std::process::Abort;
@@ -138,6 +138,7 @@ pub(crate) fn played(
         "try" => Some(tries(rt, alloc, handle, words, wanted)),
         "take" | "take_from" | "heard" => Some(takes(rt, alloc, handle, name, words, wanted)),
         "lines" => Some(writes_lines(rt, alloc, handle, words, wanted)),
+        "shown" => Some(shows(rt, alloc, handle, words, wanted)),
         "tick" => Some(ticks(rt, alloc, handle, wanted)),
         _ => None,
     }
