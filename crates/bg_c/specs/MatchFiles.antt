@@ -29,8 +29,8 @@ abbrev pub MakesImport : Rules → List ℕ → Result (Vec ℕ × ℕ) ImportFa
 MakesImport rules file (Ok made) =
     (log : Log) × (lines : List ℕ) × Imports 0 rules file log lines
     × IsTranscript log.terms log.entries made.0.items × (made.1 ≡ length log.entries)
-MakesImport rules file (Err fault.TooLong) = most_bytes < length file
-MakesImport rules file (Err why) = IsRefusal 0 rules (lines_in file) why
+MakesImport rules file (Err why) =
+    IsRefusal 0 rules (lines_in file) why × (why ≡ fault.TooLong → most_bytes < length file)
 
 -- the status of a match file that gives no match
 abbrev pub import_status : ImportFault → Status
