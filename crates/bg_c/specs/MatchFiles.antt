@@ -1,6 +1,5 @@
 -- Match files of other programs, from and to transcripts.
-use Rattle.std.specs.Prelude.{◌≡◌, ◌⊎◌, ◌<◌, ℕ, List, length, Option, Some, None, Result, Ok, Err}
-use Rattle.std.specs.Prelude.{MatchOption}
+use Rattle.std.specs.Prelude.{◌≡◌, ◌⊎◌, ◌<◌, ℕ, List, length, Result, Ok, Err, MatchOption}
 use Rattle.std.specs.Global.{Vec}
 use Rattle.bg_match.specs.Match.{Log}
 use Rattle.bg_match.specs.declared.limits.Rules.{Rules}

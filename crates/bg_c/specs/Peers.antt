@@ -1,6 +1,6 @@
 -- What a party makes of a packet whose sender the host knows, and a referee of a peer that the host
 -- knows.
-use Rattle.std.specs.Prelude.{◌≡◌, ℕ, ◌≤◌, List, Option, Some, None, is_some, IsTrue, Result, Err}
+use Rattle.std.specs.Prelude.{◌≡◌, ℕ, ◌≤◌, List, is_some, IsTrue, Result, Err}
 use Rattle.bg_match.specs.Limits.{most_entries}
 use Rattle.bg_match.specs.Match.{Log}
 use Rattle.bg_match.specs.Terms.{rules_of}

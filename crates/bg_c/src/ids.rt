@@ -1,5 +1,4 @@
 //! The calls that name the position after a transcript as other programs do.
-ghost use Rattle.std.specs.Prelude.{◌≡◌};
 ghost use Rattle.bg_c.specs.Ids.{IsMatchIdOf, IsPositionIdOf, MakesXgid};
 ghost use Rattle.bg_c.specs.MatchFiles.{MakesOfTranscript};
 ghost use Rattle.bg_c.specs.Sets.{Writes};

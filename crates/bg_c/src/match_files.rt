@@ -1,5 +1,5 @@
 //! The calls that read and write match files of other programs.
-ghost use Rattle.std.specs.Prelude.{◌≡◌, ℕ};
+ghost use Rattle.std.specs.Prelude.{◌≡◌};
 ghost use Rattle.bg_mat.specs.Files.{Exports};
 ghost use Rattle.bg_c.specs.MatchFiles.{GivesImport, ImportsFile, MakesImport, MakesOfTranscript, verdict_after};
 ghost use Rattle.bg_c.specs.Sets.{Writes};

@@ -1,6 +1,5 @@
 //! The calls that draw transcripts.
 ghost use Rattle.std.specs.Prelude.{◌≡◌};
-ghost use Rattle.bg_picture.specs.Pages.{Words};
 ghost use Rattle.bg_c.specs.MatchFiles.{MakesOfTranscript};
 ghost use Rattle.bg_c.specs.Pictures.{IsPageOf, IsPictureOf, MakesNumbered, MakesPage, MakesPicture};
 ghost use Rattle.bg_c.specs.Pictures.{numbering_numbered};
