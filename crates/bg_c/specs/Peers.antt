@@ -53,7 +53,7 @@ want_holding log peer held = packet.Want log.id (rules_of log.terms) peer held
 pub record IsPeer (peer held : ℕ) : Type 0 where
   pub first : seat_of_x ≤ peer
   pub last : peer ≤ last_watcher
-  pub held : held ≤ most_entries
+  pub few : held ≤ most_entries
 
 -- the referee takes the want that the peer would send; it reads no word for that
 pub record HearsPeer (old : Held) (peer held : ℕ) (made : Told) (new : Held) : Type 0 where
@@ -62,5 +62,5 @@ pub record HearsPeer (old : Held) (peer held : ℕ) (made : Told) (new : Held) :
 
 -- the numbers are looked at first
 pub record Hears (old : Held) (peer held : ℕ) (made : Told) (new : Held) : Type 0 where
-  pub peer : IsPeer peer held → HearsPeer old peer held made new
+  pub known : IsPeer peer held → HearsPeer old peer held made new
   pub none : (IsPeer peer held → ⊥) → RefusesFor BadArgument old made new

@@ -36,7 +36,7 @@ pub record MayStand (words : Words) (seconds : ℕ) : Type 0 where
   pub title : IsUtf8 words.title
   pub x : IsUtf8 words.x
   pub o : IsUtf8 words.o
-  pub seconds : seconds ≤ 65535
+  pub few : seconds ≤ 65535
 
 -- these are looked at next
 pub record MakesNumbered
