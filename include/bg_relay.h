@@ -26,7 +26,9 @@
  * Versions.  A program runs with each library of its BG_ABI, whose BG_VERSION is not less than that of its header:
  *   bg_abi() == BG_ABI && bg_version() >= BG_VERSION. The shared library is named by BG_ABI, as libbg_relay.so.2.
  *   Version 201 added bg_party_options, bg_party_claim and bg_party_try. Version 202 added bg_party_told,
- *   bg_party_entries_text and bg_party_standing.
+ *   bg_party_entries_text and bg_party_standing. Version 203 added bg_party_take_from and bg_referee_heard,
+ *   bg_party_shown, bg_parties_tick, bg_mat_import and bg_mat_export, bg_picture and bg_page, bg_position_id, bg_match_id and bg_xgid,
+ *   and bg_check.
  * Many servers.  Several processes may run one party at once if their store takes a save only where its number (*save)
  *   is one more than that of the newest save of this party, in one statement with the text. After a refusal close the
  *   handle and resume the party from its slots; never call bg_party_mark_saved (docs/USING.md, "Many servers over one
@@ -44,8 +46,8 @@ extern "C" {
 #endif
 
 #define BG_ABI 2u                          /* of the calls and structs that are here: none of them changes */
-#define BG_VERSION 202u                    /* 100 times BG_ABI, and one more each time that calls were added */
-#define BG_VERSION_TEXT "2.2"              /* the same as a text */
+#define BG_VERSION 203u                    /* 100 times BG_ABI, and one more each time that calls were added */
+#define BG_VERSION_TEXT "2.3"              /* the same as a text */
 
 /* What there is at most. A room of BG_LONGEST_SAVED_TEXT bytes takes each text that is to be saved, and a room of
  * BG_LONGEST_TRANSCRIPT each transcript; most texts are far shorter, so begin with 4096 bytes, and follow `*needed`. A
@@ -91,7 +93,9 @@ enum {
     BG_NOT_A_SAVE = 21,        /* bg_saved_peek: the bytes are no saved text */
     BG_BUSY = 22,              /* another call is inside the handle */
     BG_CLOSED = 23,            /* the handle was closed */
-    BG_COPIED = 24             /* the handle is a copy of one that was opened, or was moved since */
+    BG_COPIED = 24,            /* the handle is a copy of one that was opened, or was moved since */
+    BG_OTHER_SENDER = 25,      /* bg_party_take_from: the packet says another sender than the program knows it to have */
+    BG_NO_XGID = 26            /* bg_xgid: a game is to be opened, an offer to resign is open, or the match is over */
 };
 /* The name of a status, such as "BG_NO_ROOM": a constant string that ends with a zero byte, and is never null. */
 const char *bg_status_name(bg_status status);
@@ -138,6 +142,47 @@ bg_status bg_transcript_board(const uint8_t *transcript, size_t length, uint8_t 
  * where bg_judge does not find it fine; BG_NOT_TO_MOVE where no player is to move, or the referee is to pass that turn
  * (by the rules 2). */
 bg_status bg_transcript_turns(const uint8_t *transcript, size_t length, uint8_t *out, size_t room, size_t *needed);
+
+/* Match files of other programs (.mat). The first call writes the transcript of the match that a file tells, whose rules
+ * (1 or 2) the file does not say; the second writes the match file of a transcript, with X in the left column.
+ *
+ * The verdict is set where the answer is BG_OK, BG_NO_ROOM or BG_REFUSED: it counts the entries, or it has the line of
+ * the file that is refused; where no line of it has content, that is the one behind the last. bg_check says why, in
+ * words. Refused in this order: BG_BAD_ARGUMENT where there are no such rules; BG_REFUSED where the file gives no match
+ * or is longer than BG_LONGEST_TRANSCRIPT, or where bg_judge does not find the transcript fine; BG_MEMORY. */
+bg_status bg_mat_import(uint32_t rules, const uint8_t *file, size_t length, bg_verdict *verdict,
+                        uint8_t *out, size_t room, size_t *needed);
+bg_status bg_mat_export(const uint8_t *transcript, size_t length, uint8_t *out, size_t room, size_t *needed);
+/* In whose numbers a picture has the points. */
+enum {
+    BG_NUMBERING_MOVER = 0,    /* of the player who rolls, answers a double, moves or resigns; X's where none does */
+    BG_NUMBERING_X = 1
+};
+/* The position after a transcript as a picture (SVG), and the whole match as a page (HTML): the start of each game, each
+ * entry and the result, with a title and the names of X and O, which may have no bytes. The page escapes them: they may
+ * be any texts in UTF-8. Unless `seconds` is 0, a browser asks for a newer page after that many.
+ *
+ * Refused in this order: BG_BAD_ARGUMENT where there is no such numbering, where the title or a name is not UTF-8, or
+ * where the seconds are more than 65535; BG_REFUSED where bg_judge does not find the transcript fine; BG_MEMORY. */
+bg_status bg_picture(const uint8_t *transcript, size_t length, uint32_t numbering,
+                     uint8_t *out, size_t room, size_t *needed);
+bg_status bg_page(const uint8_t *transcript, size_t length, const uint8_t *title, size_t title_length,
+                  const uint8_t *x, size_t x_length, const uint8_t *o, size_t o_length, uint32_t numbering,
+                  uint32_t seconds, uint8_t *out, size_t room, size_t *needed);
+/* What other programs call the position after a transcript, without a line feed: the Position ID of GNU Backgammon (the
+ * board, 14 bytes), its Match ID (all else, 12 bytes), and the XGID of eXtreme Gammon (both, 47 to 55 bytes). BG_REFUSED
+ * where bg_judge does not find the transcript fine; BG_NO_XGID where a game is to be opened, an offer to resign is to be
+ * answered, or the match is over. */
+bg_status bg_position_id(const uint8_t *transcript, size_t length, uint8_t *out, size_t room, size_t *needed);
+bg_status bg_match_id(const uint8_t *transcript, size_t length, uint8_t *out, size_t room, size_t *needed);
+bg_status bg_xgid(const uint8_t *transcript, size_t length, uint8_t *out, size_t room, size_t *needed);
+/* The line that `bg_relay check` prints of a file: its name, the verdict in words, and the line that is refused. A file
+ * is a match file where its first line with content is the length of a match, or where its name ends in ".mat" and it
+ * does not begin as a transcript; else it is a transcript. Match files are read by the rules 1. The line fits a screen
+ * of so many columns; 0 is no screen. The name is escaped, so that the line is harmless on a terminal. The verdict is
+ * set where the answer is BG_OK or BG_NO_ROOM. BG_BAD_ARGUMENT where the name is not UTF-8. */
+bg_status bg_check(const uint8_t *name, size_t name_length, const uint8_t *file, size_t length, uint32_t columns,
+                   bg_verdict *verdict, uint8_t *out, size_t room, size_t *needed);
 
 /* ---- bytes (docs/FORMATS.md) ---- */
 
@@ -284,6 +329,17 @@ typedef struct bg_standing {
 /* Where the match stands by the record, by all entries that the party holds; after the match, as it ended. Of a referee
  * it counts entries that are not saved yet: see bg_party_told. */
 bg_status bg_party_standing(const bg_party *party, bg_standing *standing);
+typedef struct bg_shown {
+    uint32_t entries;          /* that the party may show to others, as bg_party_told says */
+    uint32_t held;             /* entries that it holds: where these are more, a referee has to save */
+    uint32_t claim;            /* of a seat: the number of its last claim, which waits for its answer where that is more
+                                * than `held`; 0 where there is none */
+    uint32_t reserved[5];
+    bg_standing standing;      /* where the match stands after the entries that the party may show */
+} bg_shown;
+/* What a party may show to others, in one call: its struct, and the transcript of the entries that are told. Nothing in
+ * either counts an entry that a referee has not saved, but for `held`. *shown is set where the answer is BG_OK. */
+bg_status bg_party_shown(const bg_party *party, bg_shown *shown, uint8_t *out, size_t room, size_t *needed);
 
 typedef struct bg_datagram {
     uint32_t to;               /* the party that it goes to */
@@ -319,10 +375,31 @@ typedef struct bg_outcome {
  * whatever call: dice that somebody has seen would come again. */
 bg_status bg_referee_due(bg_party *party, uint32_t word, uint32_t *number);
 /* The party takes a packet. The random word, which no call had before, gives the dice where the referee accepts a roll;
- * followers do not read it. *outcome and *answer are set where the answer is BG_OK. A claim is answered once its entry
- * is saved, when the seat sends it again. */
+ * followers do not read it. A word that may give dice is drawn for each packet, also for one that claims no roll, and
+ * is used up by the call, whatever that answers. *outcome and *answer are set where the answer is BG_OK. A claim is
+ * answered once its entry is saved, when the seat sends it again.
+ *
+ * The party believes the packet: a referee lets whoever says that he is the seat of X play for X. So a program hands in
+ * what came over an authenticated connection alone, or sealed (docs/OPERATING.md); where it knows who that is, it calls
+ * bg_party_take_from. */
 bg_status bg_party_take(bg_party *party, const uint8_t *packet, size_t length, uint32_t word,
                         bg_outcome *outcome, bg_datagram *answer);
+/* The same of a packet whose sender the program has authenticated: 1 to 255 at a referee, 0, which is the referee, at a
+ * seat or a watcher. Want and claim say their sender, and entries are the referee's. Refused in this order, and then
+ * everything is as before: BG_BAD_ARGUMENT where there is no party of this number; BG_NOT_A_PACKET where the bytes are
+ * no packet; BG_OTHER_SENDER where the packet says another sender: drop it, and look at who sent it; BG_MEMORY. */
+bg_status bg_party_take_from(bg_party *party, uint32_t sender, const uint8_t *packet, size_t length, uint32_t word,
+                             bg_outcome *outcome, bg_datagram *answer);
+/* A referee hears that a peer (1 to 255) is there, and holds so many entries (0 to 1000000): it does what it would do at
+ * a want of that peer. Where the peer lacks saved entries, the kind of *outcome is BG_TOOK_ANSWERED, and *answer has the
+ * first of them, at most 8, to be sent to it; where it has them all, BG_TOOK_NOTHING; where it says that it has more,
+ * BG_TOOK_AHEAD: then the slots are not those of this match. After the first two, bg_party_tick sends the peer what is
+ * saved later, without being asked.
+ *
+ * A referee that was opened again knows no peer until a packet of it comes: a program that knows who is connected names
+ * each to it by this call, after bg_party_resume. Refused in this order: BG_BAD_ARGUMENT where there is no such peer or
+ * no such number of entries; BG_WRONG_PARTY where the party is not the referee. */
+bg_status bg_referee_heard(bg_party *party, uint32_t peer, uint32_t held, bg_outcome *outcome, bg_datagram *answer);
 /* A seat claims an action, such as "roll" or "move 8-5 6-5". The text has no line feed: a line of bg_party_turns is an
  * action once its line feed is cut. *number is that of the entry that shall answer it where the answer is BG_OK; *why
  * is set where it is BG_ILLEGAL; else they are as before. Save after BG_OK: a claim is sent once it is saved.
@@ -361,6 +438,21 @@ bg_status bg_party_try(const bg_party *party, uint32_t player, const uint8_t *ac
 /* What is to be sent now, at most two packets; call it about once a second, and at once after bg_party_mark_saved. Both
  * are set where the answer is BG_OK. */
 bg_status bg_party_tick(bg_party *party, bg_datagram *first, bg_datagram *second);
+typedef struct bg_ticked {
+    bg_status status;          /* what bg_party_tick answered of this party */
+    uint32_t count;            /* how many packets it makes: 0, 1 or 2 */
+    uint32_t reserved[2];
+    bg_datagram packets[2];    /* those that are to be sent are in front; the others send nothing. Set with BG_OK */
+} bg_ticked;
+/* The same of many parties, one after the other: ticked[n] is of *parties[n]. A party that refuses the call, as BG_BUSY
+ * where another thread is inside, has its status there and count 0, and its packets are as before; the others are
+ * ticked all the same. Sets *sending to how many of them make packets, and always answers BG_OK.
+ *
+ * A referee whose tick makes no packet makes none until a call that changes it: bg_party_take, bg_party_take_from,
+ * bg_referee_heard or bg_party_mark_saved. So a program ticks a referee after these until it makes none, and needs no
+ * tick of one that is idle. A seat or a watcher counts its ticks, to ask again after 1, 2, 4 and at most 32 of them:
+ * tick each, as long as the match goes on. */
+bg_status bg_parties_tick(bg_party *const *parties, size_t count, bg_ticked *ticked, size_t *sending);
 
 /* Begins the next save of a referee or a seat, and sets *slot and *save: write the text whole to slot *slot (0 or 1),
  * make sure that it is there, and then call bg_party_mark_saved with *save. What changes the record or the claim in

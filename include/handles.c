@@ -33,9 +33,14 @@ BG_HIDDEN bg_status bg_proved_party_entries_text(bg_inner *party, uint32_t from,
                                                  size_t room, size_t *needed);
 BG_HIDDEN bg_status bg_proved_party_actor(bg_inner *party, uint32_t *actor);
 BG_HIDDEN bg_status bg_proved_party_standing(bg_inner *party, bg_standing *standing);
+BG_HIDDEN bg_status bg_proved_party_shown(bg_inner *party, bg_shown *shown, uint8_t *out, size_t room, size_t *needed);
 BG_HIDDEN bg_status bg_proved_referee_due(bg_inner *party, uint32_t word, uint32_t *number);
 BG_HIDDEN bg_status bg_proved_party_take(bg_inner *party, const uint8_t *packet, size_t length, uint32_t word,
                                          bg_outcome *outcome, bg_datagram *answer);
+BG_HIDDEN bg_status bg_proved_party_take_from(bg_inner *party, uint32_t sender, const uint8_t *packet, size_t length,
+                                              uint32_t word, bg_outcome *outcome, bg_datagram *answer);
+BG_HIDDEN bg_status bg_proved_referee_heard(bg_inner *party, uint32_t peer, uint32_t held, bg_outcome *outcome,
+                                            bg_datagram *answer);
 BG_HIDDEN bg_status bg_proved_seat_choose(bg_inner *party, const uint8_t *action, size_t length, uint32_t *number,
                                           uint32_t *why);
 BG_HIDDEN bg_status bg_proved_party_options(bg_inner *party, uint32_t *options);
@@ -205,6 +210,11 @@ bg_status bg_party_standing(const bg_party *party, bg_standing *standing) {
     WITHIN(it, bg_proved_party_standing(inner(it), standing));
 }
 
+bg_status bg_party_shown(const bg_party *party, bg_shown *shown, uint8_t *out, size_t room, size_t *needed) {
+    bg_party *it = writable(party);
+    WITHIN(it, bg_proved_party_shown(inner(it), shown, out, room, needed));
+}
+
 bg_status bg_party_options(const bg_party *party, uint32_t *options) {
     bg_party *it = writable(party);
     WITHIN(it, bg_proved_party_options(inner(it), options));
@@ -230,12 +240,40 @@ bg_status bg_party_take(bg_party *party, const uint8_t *packet, size_t length, u
     WITHIN(party, bg_proved_party_take(inner(party), packet, length, word, outcome, answer));
 }
 
+bg_status bg_party_take_from(bg_party *party, uint32_t sender, const uint8_t *packet, size_t length, uint32_t word,
+                             bg_outcome *outcome, bg_datagram *answer) {
+    WITHIN(party, bg_proved_party_take_from(inner(party), sender, packet, length, word, outcome, answer));
+}
+
+bg_status bg_referee_heard(bg_party *party, uint32_t peer, uint32_t held, bg_outcome *outcome, bg_datagram *answer) {
+    WITHIN(party, bg_proved_referee_heard(inner(party), peer, held, outcome, answer));
+}
+
 bg_status bg_seat_choose(bg_party *party, const uint8_t *action, size_t length, uint32_t *number, uint32_t *why) {
     WITHIN(party, bg_proved_seat_choose(inner(party), action, length, number, why));
 }
 
 bg_status bg_party_tick(bg_party *party, bg_datagram *first, bg_datagram *second) {
     WITHIN(party, bg_proved_party_tick(inner(party), first, second));
+}
+
+/* Ticks one of many parties. 1 where it makes a packet; the second one is never made alone. */
+static size_t tick_one(bg_party *party, bg_ticked *it) {
+    it->status = bg_party_tick(party, &it->packets[0], &it->packets[1]);
+    it->count = 0;
+    it->reserved[0] = it->reserved[1] = 0;
+    for (int at = 0; at < 2 && it->status == BG_OK; at++) {
+        it->count += it->packets[at].length != 0;
+    }
+    return it->count != 0;
+}
+
+bg_status bg_parties_tick(bg_party *const *parties, size_t count, bg_ticked *ticked, size_t *sending) {
+    *sending = 0;
+    for (size_t at = 0; at < count; at++) {
+        *sending += tick_one(parties[at], &ticked[at]);
+    }
+    return BG_OK;
 }
 
 bg_status bg_party_to_save(bg_party *party, uint32_t *slot, uint32_t *save, uint8_t *out, size_t room,

@@ -33,6 +33,8 @@ const char *bg_status_name(bg_status status) {
         NAME(BG_BUSY);
         NAME(BG_CLOSED);
         NAME(BG_COPIED);
+        NAME(BG_OTHER_SENDER);
+        NAME(BG_NO_XGID);
     default:
         return "an unknown status";
     }

@@ -2,7 +2,7 @@
 import ctypes
 from ctypes import POINTER, byref, c_char_p, c_size_t, c_uint8, c_uint32, c_uint64
 
-ABI, VERSION = 2, 200
+ABI, VERSION = 2, 203
 OK, NO_ROOM = 0, 1
 NOT_YOUR_TURN, ALREADY_CLAIMED, ILLEGAL, NOT_DUE, WORD_REFUSED, NOT_TO_MOVE = 12, 13, 14, 15, 16, 17
 TOOK_ACCEPTED, TOOK_WORD_REFUSED = 3, 7
@@ -43,6 +43,44 @@ class Verdict(ctypes.Structure):
     _fields_ = [("kind", c_uint32), ("number", c_uint32), ("reserved", c_uint32 * 2)]
 
 
+def numbers(*fields):
+    """The fields of a structure that are numbers, or lists of so many, as "dice 2"."""
+    for name, *count in map(str.split, fields):
+        yield name, c_uint32 * int(count[0]) if count else c_uint32
+
+
+class Packet(ctypes.Structure):
+    """bg_packet."""
+
+    _fields_ = [("id", c_uint64), *numbers("rules", "kind", "sender", "number", "count", "reserved 3")]
+
+
+class Peeked(ctypes.Structure):
+    """bg_peeked."""
+
+    _fields_ = [("id", c_uint64), *numbers("party", "match_length", "rules", "save", "entries", "claim", "reserved 4")]
+
+
+class Standing(ctypes.Structure):
+    """bg_standing."""
+
+    _fields_ = [*numbers("match_length", "rules", "game", "crawford", "x_score", "o_score", "cube", "cube_owner", "phase",
+                         "player", "level", "dice 2", "actor", "x_pips", "o_pips", "x_checkers 26", "o_checkers 26",
+                         "reserved 12")]
+
+
+class Shown(ctypes.Structure):
+    """bg_shown."""
+
+    _fields_ = [*numbers("entries", "held", "claim", "reserved 5"), ("standing", Standing)]
+
+
+class Ticked(ctypes.Structure):
+    """bg_ticked."""
+
+    _fields_ = [*numbers("status", "count", "reserved 2"), ("packets", Datagram * 2)]
+
+
 class Refused(Exception):
     """A call answered another status than the caller knows what to do with."""
 
@@ -52,12 +90,43 @@ TEXT_OUT = [c_char_p, c_size_t, POINTER(c_size_t)]
 NUMBER, DATAGRAM = [POINTER(c_uint32)], [POINTER(Datagram)]
 # The party, the match, its length and its rules.
 MATCH = [c_uint32, c_uint64, c_uint32, c_uint32]
+# Of a transcript a text.
+TEXT_OF_TEXT = [*TEXT_IN, *TEXT_OUT]
 ARGUMENTS = {
+    "bg_abi": [],
+    "bg_version": [],
+    "bg_version_text": [],
     "bg_status_name": [c_uint32],
+    "bg_status_text": [c_uint32, *TEXT_OUT],
     "bg_judge": [*TEXT_IN, POINTER(Verdict), *TEXT_OUT],
+    "bg_transcript_board": TEXT_OF_TEXT,
+    "bg_transcript_turns": TEXT_OF_TEXT,
+    "bg_mat_import": [c_uint32, *TEXT_IN, POINTER(Verdict), *TEXT_OUT],
+    "bg_mat_export": TEXT_OF_TEXT,
+    "bg_picture": [*TEXT_IN, c_uint32, *TEXT_OUT],
+    "bg_page": [*TEXT_IN, *TEXT_IN, *TEXT_IN, *TEXT_IN, c_uint32, c_uint32, *TEXT_OUT],
+    "bg_position_id": TEXT_OF_TEXT,
+    "bg_match_id": TEXT_OF_TEXT,
+    "bg_xgid": TEXT_OF_TEXT,
+    "bg_check": [*TEXT_IN, *TEXT_IN, c_uint32, POINTER(Verdict), *TEXT_OUT],
+    "bg_packet_read": [*TEXT_IN, POINTER(Packet)],
+    "bg_saved_peek": [*TEXT_IN, POINTER(Peeked)],
+    "bg_slots_read": [*MATCH, *TEXT_IN, *TEXT_IN, POINTER(Saved)],
     "bg_party_begin": [*PARTY, *MATCH, *TEXT_IN, *TEXT_IN],
     "bg_party_resume": [*PARTY, *MATCH, *TEXT_IN, *TEXT_IN, POINTER(Saved)],
     "bg_party_close": PARTY,
+    "bg_party_entries": [*PARTY, *NUMBER],
+    "bg_party_told": [*PARTY, *NUMBER],
+    "bg_party_board": [*PARTY, *TEXT_OUT],
+    "bg_party_entries_text": [*PARTY, c_uint32, c_uint32, *TEXT_OUT],
+    "bg_party_standing": [*PARTY, POINTER(Standing)],
+    "bg_party_shown": [*PARTY, POINTER(Shown), *TEXT_OUT],
+    "bg_party_options": [*PARTY, *NUMBER],
+    "bg_party_claim": [*PARTY, *NUMBER, *TEXT_OUT],
+    "bg_party_try": [*PARTY, c_uint32, *TEXT_IN, *NUMBER, *NUMBER],
+    "bg_party_take_from": [*PARTY, c_uint32, *TEXT_IN, c_uint32, POINTER(Outcome), *DATAGRAM],
+    "bg_referee_heard": [*PARTY, c_uint32, c_uint32, POINTER(Outcome), *DATAGRAM],
+    "bg_parties_tick": [POINTER(POINTER(Handle)), c_size_t, POINTER(Ticked), POINTER(c_size_t)],
     "bg_party_saved": [*PARTY, *NUMBER],
     "bg_party_transcript": [*PARTY, *TEXT_OUT],
     "bg_party_turns": [*PARTY, *TEXT_OUT],
@@ -79,7 +148,7 @@ class Library:
         for name, types in ARGUMENTS.items():
             call = getattr(self.calls, name)
             call.argtypes = types
-            call.restype = c_char_p if name == "bg_status_name" else c_uint32
+            call.restype = c_char_p if name in ("bg_status_name", "bg_version_text") else c_uint32
         if self.calls.bg_abi() != ABI or self.calls.bg_version() < VERSION:
             raise Refused(f"{path} is another version of the library")
 

@@ -36,14 +36,14 @@ static size_t needed;
 static bg_saved found;
 
 static void check_statuses(void) {
-    for (bg_status status = BG_OK; status <= BG_COPIED; status++) {
+    for (bg_status status = BG_OK; status <= BG_NO_XGID; status++) {
         check_status(bg_status_text(status, out, ROOM, &needed), BG_OK, "a status has a text");
         check(needed > 0 && memchr(out, '\n', needed) == NULL, "a text without a line feed");
     }
-    check_status(bg_status_text(BG_COPIED + 1, out, ROOM, &needed), BG_BAD_ARGUMENT, "the first number of no status");
+    check_status(bg_status_text(BG_NO_XGID + 1, out, ROOM, &needed), BG_BAD_ARGUMENT, "the first number of no status");
     check_status(bg_status_text(UINT32_MAX, out, ROOM, &needed), BG_BAD_ARGUMENT, "the last one");
     check(strcmp(bg_status_name(BG_OK), "BG_OK") == 0, "the name of the first status");
-    check(strcmp(bg_status_name(BG_COPIED), "BG_COPIED") == 0, "the name of the last one");
+    check(strcmp(bg_status_name(BG_NO_XGID), "BG_NO_XGID") == 0, "the name of the last one");
     check(strcmp(bg_status_name(UINT32_MAX), "an unknown status") == 0, "no name");
     check_number(bg_abi(), BG_ABI, "the interface of the library");
     check_number(bg_version(), BG_VERSION, "the version of the library");

@@ -13,6 +13,7 @@
 enum { ROOM = 4096, UNTOUCHED = 0xA5, THREE_ONE = 12 };
 
 static const char TRANSCRIPT[] = "length 1\nopen 3 1\nX move 8-5 6-5\nO roll 6 4\n";
+static const char MATCH_FILE[] = " 1 point match\n\n Game 1\n A : 0   B : 0\n 1) 31: 8/5 6/5\n";
 
 /* All that a call may set. */
 struct answers {
@@ -23,6 +24,7 @@ struct answers {
     bg_packet packet;
     bg_saved saved;
     bg_peeked peeked;
+    bg_shown shown;
     bg_outcome outcome;
     bg_datagram first, second;
 };
@@ -83,7 +85,10 @@ static bg_status seat_takes(void) {
     return takes(&run.seat);
 }
 static bg_status watcher_takes(void) {
-    return takes(&run.watcher);
+    return bg_party_take_from(&run.watcher, 0, run.sent.bytes, run.sent.length, 0, &run.now.outcome, &run.now.first);
+}
+static bg_status referee_hears(void) {
+    return bg_referee_heard(&run.referee, 4, 1, &run.now.outcome, &run.now.first);
 }
 static bg_status choose(void) {
     return bg_seat_choose(&run.seat, BYTES("move 8-5 6-5"), &run.now.number, &run.now.other);
@@ -99,6 +104,9 @@ static bg_status transcript(void) {
 }
 static bg_status lines(void) {
     return bg_party_entries_text(&run.watcher, 1, 2, run.now.out, ROOM, &run.now.needed);
+}
+static bg_status show(void) {
+    return bg_party_shown(&run.referee, &run.now.shown, run.now.out, ROOM, &run.now.needed);
 }
 static bg_status read_slots(void) {
     return bg_slots_read(1, 1, 1, 1, NULL, 0, run.saved_text, run.saved_length, &run.now.saved);
@@ -128,6 +136,30 @@ static bg_status transcript_board(void) {
 static bg_status transcript_turns(void) {
     return bg_transcript_turns(BYTES(TRANSCRIPT), run.now.out, ROOM, &run.now.needed);
 }
+static bg_status import_file(void) {
+    return bg_mat_import(1, BYTES(MATCH_FILE), &run.now.verdict, run.now.out, ROOM, &run.now.needed);
+}
+static bg_status export_file(void) {
+    return bg_mat_export(BYTES(TRANSCRIPT), run.now.out, ROOM, &run.now.needed);
+}
+static bg_status position_id(void) {
+    return bg_position_id(BYTES(TRANSCRIPT), run.now.out, ROOM, &run.now.needed);
+}
+static bg_status match_id(void) {
+    return bg_match_id(BYTES(TRANSCRIPT), run.now.out, ROOM, &run.now.needed);
+}
+static bg_status xgid(void) {
+    return bg_xgid(BYTES(TRANSCRIPT), run.now.out, ROOM, &run.now.needed);
+}
+static bg_status report(void) {
+    return bg_check(BYTES("a"), BYTES(TRANSCRIPT), 80, &run.now.verdict, run.now.out, ROOM, &run.now.needed);
+}
+static bg_status picture_without_room(void) {
+    return bg_picture(BYTES(TRANSCRIPT), BG_NUMBERING_MOVER, NULL, 0, &run.now.needed);
+}
+static bg_status page_without_room(void) {
+    return bg_page(BYTES(TRANSCRIPT), BYTES("a"), NULL, 0, NULL, 0, BG_NUMBERING_X, 0, NULL, 0, &run.now.needed);
+}
 static bg_status packet_read(void) {
     return bg_packet_read(run.sent.bytes, run.sent.length, &run.now.packet);
 }
@@ -139,10 +171,15 @@ static const step STEPS[] = {
     open_referee, open_seat, open_watcher, due, save_referee, mark_referee, tick_seat, packet_read, referee_takes,
     seat_takes, turns, choose, claim, try_action, save_seat, mark_seat, read_slots, peek, tick_seat, referee_takes,
     save_referee, mark_referee,
-    tick_watcher, referee_takes, watcher_takes, board, transcript, lines, open_again, turns, judge, judge_without_room,
-    transcript_board, transcript_turns, status_text,
+    tick_watcher, referee_takes, watcher_takes, board, transcript, lines, show, referee_hears, open_again, turns, judge, judge_without_room,
+    transcript_board, transcript_turns, import_file, export_file, position_id, match_id, xgid, report,
+    picture_without_room, page_without_room, status_text,
 };
 enum { COUNT = sizeof STEPS / sizeof *STEPS };
+
+static int has_room(step one) {
+    return one != judge_without_room && one != picture_without_room && one != page_without_room;
+}
 
 /* What the run did where memory was there: the status of each step, and a digest of all that it set. */
 static bg_status wanted[COUNT];
@@ -228,8 +265,7 @@ int main(void) {
     long requests = run_refusing(HEAP_REFUSES_NONE, &lacks);
     check(lacks == 0 && requests > 0, "memory is there");
     for (int at = 0; at < COUNT; at++) {
-        bg_status good = STEPS[at] == judge_without_room ? BG_NO_ROOM : BG_OK;
-        check_status(wanted[at], good, "a step of the run");
+        check_status(wanted[at], has_room(STEPS[at]) ? BG_OK : BG_NO_ROOM, "a step of the run");
     }
     for (long refused = 0; refused < requests; refused++) {
         run_refusing(refused, &lacks);

@@ -20,6 +20,7 @@ struct answers {
     bg_verdict verdict;
     bg_saved saved;
     bg_standing standing;
+    bg_shown shown;
     bg_outcome outcome;
     bg_datagram first, second;
 };
@@ -41,15 +42,15 @@ static int is_untouched(void) {
 
 /* The calls on a party, by their numbers; the word opens no game. */
 enum {
-    ENTRIES, SAVED, TOLD, BOARD, A_TRANSCRIPT, TURNS, LINES, ACTOR, STANDING, OPTIONS, CLAIM, TRY, DUE, TAKE,
-    CHOOSE, TICK, TO_SAVE, MARK_SAVED, CALLS
+    ENTRIES, SAVED, TOLD, BOARD, A_TRANSCRIPT, TURNS, LINES, ACTOR, STANDING, SHOWN, OPTIONS, CLAIM, TRY, DUE, TAKE,
+    TAKE_FROM, HEARD, CHOOSE, TICK, TO_SAVE, MARK_SAVED, CALLS
 };
 
 static const char *const NAMES[CALLS] = {
     "bg_party_entries", "bg_party_saved", "bg_party_told", "bg_party_board", "bg_party_transcript",
-    "bg_party_turns", "bg_party_entries_text", "bg_party_actor", "bg_party_standing", "bg_party_options",
-    "bg_party_claim", "bg_party_try", "bg_referee_due", "bg_party_take", "bg_seat_choose", "bg_party_tick",
-    "bg_party_to_save", "bg_party_mark_saved",
+    "bg_party_turns", "bg_party_entries_text", "bg_party_actor", "bg_party_standing", "bg_party_shown", "bg_party_options",
+    "bg_party_claim", "bg_party_try", "bg_referee_due", "bg_party_take", "bg_party_take_from", "bg_referee_heard",
+    "bg_seat_choose", "bg_party_tick", "bg_party_to_save", "bg_party_mark_saved",
 };
 
 static bg_status call(int which, bg_party *party) {
@@ -74,6 +75,8 @@ static bg_status call(int which, bg_party *party) {
         return bg_party_actor(party, &to->number);
     case STANDING:
         return bg_party_standing(party, &to->standing);
+    case SHOWN:
+        return bg_party_shown(party, &to->shown, to->out, ROOM, &to->needed);
     case OPTIONS:
         return bg_party_options(party, &to->number);
     case CLAIM:
@@ -84,6 +87,10 @@ static bg_status call(int which, bg_party *party) {
         return bg_referee_due(party, 12, &to->number);
     case TAKE:
         return bg_party_take(party, BYTES("BG"), 0, &to->outcome, &to->first);
+    case TAKE_FROM:
+        return bg_party_take_from(party, 1, BYTES("BG"), 0, &to->outcome, &to->first);
+    case HEARD:
+        return bg_referee_heard(party, 3, 0, &to->outcome, &to->first);
     case CHOOSE:
         return bg_seat_choose(party, BYTES("roll"), &to->number, &to->other);
     case TICK:

@@ -38,6 +38,19 @@ static void save(bg_party *party) {
     check_status(bg_party_mark_saved(party, number), BG_OK, "it is marked");
 }
 
+/* Checks what is shown in one call, which has room for the transcript to the byte. */
+static void check_at_once(const bg_party *party, const char *transcript, uint32_t entries, uint32_t held,
+                          uint32_t actor) {
+    bg_shown it;
+    memset(&it, 0xA5, sizeof it);
+    check_status(bg_party_shown(party, &it, out, strlen(transcript) - 1, &needed), BG_NO_ROOM, "too little room");
+    check_number(it.entries, 0xA5A5A5A5, "what is not set");
+    check_status(bg_party_shown(party, &it, out, strlen(transcript), &needed), BG_OK, "what is shown");
+    check_text(out, needed, transcript, "the transcript of what is shown");
+    check(it.entries == entries && it.held == held && it.reserved[0] == 0 && it.reserved[4] == 0, "its numbers");
+    check_number(it.standing.actor, actor, "who acts by what is shown");
+}
+
 /* Checks the transcript of what a referee may show, and the last line of its board. */
 static void check_shown(const bg_party *referee, const char *transcript, const char *last_line) {
     check_status(bg_party_transcript(referee, shown, ROOM, &needed), BG_OK, "the transcript");
@@ -59,13 +72,17 @@ static void check_referee(void) {
     begin(&referee, 0, 1);
     check_status(bg_referee_due(&referee, THREE_ONE, &number), BG_OK, "an opening");
     check_shown(&referee, "length 1\n", "opening\n");
+    check_at_once(&referee, "length 1\n", 0, 1, 0);
     save(&referee);
     check_shown(&referee, "length 1\nopen 3 1\n", "X to move 3 1\n");
+    check_at_once(&referee, "length 1\nopen 3 1\n", 1, 1, 1);
     take(&referee, BYTES(CLAIM), BG_TOOK_ACCEPTED);
     check_number(entries_of(&referee), 2, "the entries that it holds");
     check_shown(&referee, "length 1\nopen 3 1\n", "X to move 3 1\n");
+    check_at_once(&referee, "length 1\nopen 3 1\n", 1, 2, 1);
     save(&referee);
     check_shown(&referee, "length 1\nopen 3 1\nX move 8-5 6-5\n", "O to roll\n");
+    check_at_once(&referee, "length 1\nopen 3 1\nX move 8-5 6-5\n", 2, 2, 2);
     bg_party_close(&referee);
 }
 

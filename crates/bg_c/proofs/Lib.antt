@@ -3,3 +3,4 @@ mod HandleSteps
 mod StatusCodes
 mod Fresh
 mod EntryLines
+mod Shown

@@ -12,7 +12,8 @@ all =
     status.WrongParty ∷ status.NotAPacket ∷ status.NotAnAction ∷ status.Damaged ∷ status.WrongMatch ∷
     status.WrongSave ∷ status.SavesSpent ∷ status.NotYourTurn ∷ status.AlreadyClaimed ∷ status.Illegal ∷
     status.NotDue ∷ status.WordRefused ∷ status.NotToMove ∷ status.Refused ∷ status.NotEmpty ∷
-    status.NothingSaved ∷ status.NotASave ∷ status.Busy ∷ status.Closed ∷ status.Copied ∷ []
+    status.NothingSaved ∷ status.NotASave ∷ status.Busy ∷ status.Closed ∷ status.Copied ∷
+    status.OtherSender ∷ status.NoXgid ∷ []
 
 is_coded : (s : Status) → slice_get all (status_code s) ≡ Some s
 is_coded status.Ok = refl
@@ -40,6 +41,8 @@ is_coded status.NotASave = refl
 is_coded status.Busy = refl
 is_coded status.Closed = refl
 is_coded status.Copied = refl
+is_coded status.OtherSender = refl
+is_coded status.NoXgid = refl
 
 pub same_status : (a b : Status) → status_code a ≡ status_code b → a ≡ b
 same_status a b same =

@@ -1,5 +1,5 @@
 -- The claims of seats: the last one, and what could be claimed.
-use Rattle.std.specs.Prelude.{◌≡◌, ◌==◌, ℕ, List, [], length, nat_le, Option, Some, None, Result, Ok, Err}
+use Rattle.std.specs.Prelude.{◌≡◌, ◌==◌, ℕ, List, [], Option, Some, None, Result, Ok, Err}
 use Rattle.std.specs.Prelude.{MatchOption, if◌then◌else◌}
 use Rattle.std.specs.Global.{Vec}
 use Rattle.bg_board.specs.declared.players.Player.{Player}
@@ -13,9 +13,7 @@ use Rattle.bg_text.specs.Entries.EntryText.{action_text}
 use Rattle.bg_c.specs.Answers.{choose_status, role_status}
 use Rattle.bg_c.specs.Handle.{Held}
 use Rattle.bg_c.specs.PartyCalls.{why_after}
-use Rattle.bg_c.specs.Rooms.{PutsText}
 use Rattle.bg_c.specs.Sets.{with_status}
-use Rattle.bg_c.specs.Status.{status_code}
 use Rattle.bg_c.specs.declared.statuses.Status.{Status}
 use Rattle.bg_c.specs.declared.statuses.Status.TheVariants.{BadArgument, Memory, NotAnAction}
 
@@ -30,17 +28,6 @@ IsClaimText (Some claim) number text = (number ≡ claim.0) × (text ≡ action_
 abbrev pub MakesClaim : Held → Result (ℕ × Vec ℕ) Status → Type 0
 MakesClaim party (Ok made) = IsClaimText (claim_of party.core) made.0 made.1.items
 MakesClaim party (Err why) = why ≡ Memory
-
--- its number is set where its text fits into the room
-abbrev pub number_in_room : ℕ × Vec ℕ → List ℕ → ℕ → ℕ
-number_in_room made room before = if nat_le (length made.1.items) (length room) then made.0 else before
-
-abbrev pub GivesClaim : Result (ℕ × Vec ℕ) Status → List ℕ → ℕ → ℕ → ℕ → List ℕ → ℕ → ℕ → Type 0
-GivesClaim (Ok made) room needed_before before code new needed number =
-    (status : Status) × PutsText made.1.items room status new needed × (code ≡ status_code status)
-    × (number ≡ number_in_room made room before)
-GivesClaim (Err why) room needed_before before code new needed number =
-    (code ≡ status_code why) × (new ≡ room) × (needed ≡ needed_before) × (number ≡ before)
 
 -- ---- what could be claimed
 

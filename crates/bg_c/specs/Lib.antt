@@ -12,10 +12,16 @@ pub mod Slots
 pub mod Turns
 pub mod Openings
 pub mod PartyCalls
+pub mod Peers
 pub mod EntryLines
 pub mod PartyTexts
 pub mod Claims
 pub mod Options
 pub mod Standings
+pub mod Shown
 pub mod Verdicts
 pub mod Transcripts
+pub mod MatchFiles
+pub mod Pictures
+pub mod Ids
+pub mod Checks

@@ -1,12 +1,18 @@
 -- What is read of packets.
 use Rattle.std.specs.Prelude.{◌≡◌, ℕ, List, length, replicate, Result, Ok, Err}
-use Rattle.bg_wire.specs.Entries.Codes.{claim_kind, entries_kind, rules_code, want_kind}
+use Rattle.bg_wire.specs.Entries.Codes.{claim_kind, entries_kind, referee, rules_code, want_kind}
 use Rattle.bg_wire.specs.Packets.PacketText.{IsText}
 use Rattle.bg_wire.specs.declared.packets.Packet.{Packet}
 use Rattle.bg_wire.specs.declared.packets.Packet.TheVariants as packet
 use Rattle.bg_c.specs.declared.packets.PacketFields.{PacketFields}
 use Rattle.bg_c.specs.declared.statuses.Status.{Status}
 use Rattle.bg_c.specs.declared.statuses.Status.TheVariants.{NotAPacket}
+
+-- the party that a packet says it is from: entries are from the referee
+abbrev pub sender_of : Packet → ℕ
+sender_of (packet.Want id rules sender held) = sender
+sender_of (packet.Claim id rules sender number action) = sender
+sender_of (packet.Entries id rules start list) = referee
 
 abbrev pub packet_fields : Packet → PacketFields
 packet_fields (packet.Want id rules sender held) = record {

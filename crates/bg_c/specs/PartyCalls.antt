@@ -62,11 +62,14 @@ told_of (Some outcome) reply = Ok (outcome, reply)
 abbrev pub told_of_taken : Taken → Result (Outcome × Datagram) Status
 told_of_taken taken = told_of (outcome_of taken) (datagram_of (reply_of taken))
 
+-- the party takes it, and this is told of it
+abbrev pub TakesPacket : Held → Packet → ℕ → Result (Outcome × Datagram) Status → Held → Type 0
+TakesPacket old p word made new = (taken : Taken) × HeldTakes old p word taken new × (made ≡ told_of_taken taken)
+
 -- bytes: the party takes the packet whose text they are, and where they are none nothing changes
 pub record TakesBytes
     (old : Held) (bytes : List ℕ) (word : ℕ) (made : Result (Outcome × Datagram) Status) (new : Held) : Type 0 where
-  pub packet : (p : Packet) → IsText p bytes → (taken : Taken) × HeldTakes old p word taken new
-      × (made ≡ told_of_taken taken)
+  pub packet : (p : Packet) → IsText p bytes → TakesPacket old p word made new
   pub none : ((p : Packet) → IsText p bytes → ⊥) → (made ≡ Err NotAPacket) × (new ≡ old)
 
 -- ---- a claim

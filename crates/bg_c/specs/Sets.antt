@@ -1,5 +1,5 @@
 -- What a call answers, and what it sets.
-use Rattle.std.specs.Prelude.{◌≡◌, ℕ, List, Result, Ok, Err}
+use Rattle.std.specs.Prelude.{◌≡◌, ℕ, List, length, nat_le, Result, Ok, Err, if◌then◌else◌}
 use Rattle.std.specs.Global.{Vec}
 use Rattle.bg_c.specs.Rooms.{PutsText}
 use Rattle.bg_c.specs.Status.{status_code}
@@ -37,3 +37,16 @@ abbrev pub Writes : (Result (Vec ℕ) Status → Type 0) → List ℕ → ℕ �
 Writes IsMade room before code new needed =
     (made : Result (Vec ℕ) Status) × (status : Status) × IsMade made × Gives made room before status new needed
     × (code ≡ status_code status)
+
+-- what goes with a text is set where the text fits into the room
+abbrev pub beside_in_room : {T : Type 0} → T × Vec ℕ → List ℕ → T → T
+beside_in_room made room before = if nat_le (length made.1.items) (length room) then made.0 else before
+
+-- the text that was made is put into the room, and what goes with it is set; where none was made,
+-- all is as before
+abbrev pub GivesBeside : {T : Type 0} → Result (T × Vec ℕ) Status → List ℕ → ℕ → T → ℕ → List ℕ → ℕ → T → Type 0
+GivesBeside (Ok made) room needed_before before code new needed beside =
+    (status : Status) × PutsText made.1.items room status new needed × (code ≡ status_code status)
+    × (beside ≡ beside_in_room made room before)
+GivesBeside (Err why) room needed_before before code new needed beside =
+    (code ≡ status_code why) × (new ≡ room) × (needed ≡ needed_before) × (beside ≡ before)

@@ -29,6 +29,8 @@ status_code status.NotASave = 21
 status_code status.Busy = 22
 status_code status.Closed = 23
 status_code status.Copied = 24
+status_code status.OtherSender = 25
+status_code status.NoXgid = 26
 
 abbrev pub status_text : Status → List ℕ
 status_text status.Ok = codes "it is done"
@@ -56,3 +58,5 @@ status_text status.NotASave = codes "the bytes are no saved text"
 status_text status.Busy = codes "another call is inside the handle"
 status_text status.Closed = codes "the handle was closed"
 status_text status.Copied = codes "the handle is a copy, or was moved after it was opened"
+status_text status.OtherSender = codes "the packet says another sender"
+status_text status.NoXgid = codes "the position has no XGID"

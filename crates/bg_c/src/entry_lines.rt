@@ -9,7 +9,7 @@ use bg_text::{entry_text, put_text};
 use std::alloc::{AllocError, Global};
 
 /// Adds the line of an entry.
-fn put_line(out: &mut Vec<u8>, log: &Record, number: Number) -> Result<(), AllocError>
+pub(crate) fn put_line(out: &mut Vec<u8>, log: &Record, number: Number) -> Result<(), AllocError>
     requires first { 1 ≤ number }
     requires last { number ≤ length log.now.entries }
     requires legal { IsLegalRecord log.now.terms log.now.entries }

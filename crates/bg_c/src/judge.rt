@@ -28,7 +28,7 @@ pub struct VerdictFields {
 
 impl VerdictFields {
     /// Returns the parts of a verdict.
-    fn of(verdict: Verdict) -> VerdictFields
+    pub(crate) fn of(verdict: Verdict) -> VerdictFields
         ensures { result ≡ verdict_fields verdict }
     {
         let (kind, number) = match verdict {

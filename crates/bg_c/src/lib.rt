@@ -9,14 +9,18 @@
 #![tactic(auto)]
 
 mod answers;
+mod checks;
 mod datagrams;
 mod entry_lines;
 mod handle;
+mod ids;
 mod judge;
 mod loose;
+mod match_files;
 mod outcomes;
 mod packets;
 mod parties;
+mod pictures;
 mod rooms;
 mod saved_texts;
 mod slots;
@@ -41,7 +45,7 @@ use statuses::Status;
 const ABI: u32 = 2;
 
 /// The number of the calls that there are, `BG_VERSION` of the header. It grows with each new call.
-const VERSION: u32 = 202;
+const VERSION: u32 = 203;
 
 /// Returns the number of the calls and the structs that no later library changes.
 #[unsafe(no_mangle)]
@@ -54,7 +58,7 @@ pub extern "C" fn bg_abi() -> u32
 /// Returns the number of the calls that there are.
 #[unsafe(no_mangle)]
 pub extern "C" fn bg_version() -> u32
-    ensures { result ≡ 202 }
+    ensures { result ≡ 203 }
 {
     VERSION
 }

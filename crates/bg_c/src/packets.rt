@@ -1,6 +1,6 @@
 //! The parts of packets by which they are routed.
 ghost use Rattle.std.specs.Prelude.{◌≡◌, Result};
-ghost use Rattle.bg_c.specs.Packets.{ReadsPacket, packet_fields};
+ghost use Rattle.bg_c.specs.Packets.{ReadsPacket, packet_fields, sender_of};
 ghost use Rattle.bg_c.specs.Sets.{Sets};
 ghost use Rattle.bg_c.specs.declared.packets.PacketFields.{PacketFields as Fields};
 ghost use Rattle.bg_c.specs.declared.statuses.Status.{Status as AStatus};
@@ -10,7 +10,7 @@ ghost use Rattle.bg_wire.specs.Entries.Codes.{rules_code};
 use crate::rooms::set;
 use crate::statuses::Status;
 use bg_match::Rules;
-use bg_wire::{Packet, decode};
+use bg_wire::{Packet, REFEREE, decode};
 
 /// The parts of a packet, `bg_packet` of the header.
 #[repr(C)]
@@ -39,6 +39,16 @@ pub(crate) fn rules_code(rules: Rules) -> u32
     match rules {
         Rules::One => 1,
         Rules::Two => 2,
+    }
+}
+
+/// Returns the party that a packet says it is from: the referee where it tells entries.
+pub(crate) fn sender_of(packet: &Packet) -> u8
+    ensures { result ≡ sender_of packet.now }
+{
+    match packet {
+        Packet::Want { sender, .. } | Packet::Claim { sender, .. } => *sender,
+        Packet::Entries { .. } => REFEREE,
     }
 }
 

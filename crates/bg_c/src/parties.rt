@@ -13,14 +13,18 @@ ghost use Rattle.bg_c.specs.declared.statuses.Status.TheVariants as status;
 pub(crate) mod claims;
 pub(crate) mod openings;
 pub(crate) mod options;
+pub(crate) mod peers;
 pub(crate) mod play;
 pub(crate) mod saves;
+pub(crate) mod shown;
 pub(crate) mod texts;
 
 use crate::handle::Handle;
 use crate::outcomes::actor_code;
 use crate::standings::StandingFields;
 use crate::statuses::Status;
+use bg_match::Number;
+use bg_parties::Party;
 use std::alloc::Global;
 
 /// Closes the handle and drops its party. A handle without one stays so.
@@ -68,6 +72,13 @@ pub extern "C" fn bg_proved_party_saved(alloc: Global, handle: &mut Handle, save
     Status::Ok.code()
 }
 
+/// Returns the number of entries that a party may show to others.
+pub(crate) fn count_told(party: &Party) -> Number
+    ensures { result ≡ count_told party.now }
+{
+    party.saved().unwrap_or(party.held().len())
+}
+
 /// Sets `entries` to the number of entries that a party may show to others: of the referee those
 /// that are saved, of a seat or a watcher all that it holds. A host that shows boards or
 /// transcripts of a referee shows these alone.
@@ -81,7 +92,7 @@ pub extern "C" fn bg_proved_party_told(alloc: Global, handle: &mut Handle, entri
     let Some(party) = handle.take(alloc) else {
         return Status::NotOpen.code();
     };
-    *entries = party.saved().unwrap_or(party.held().len());
+    *entries = count_told(&party);
     handle.put(party);
     Status::Ok.code()
 }

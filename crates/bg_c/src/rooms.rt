@@ -1,7 +1,8 @@
 //! The results that a call sets, and the room that a caller gives for a text.
 ghost use Rattle.std.specs.Prelude.{◌≡◌, ◌≤◌, ◌++◌, drop, length};
 ghost use Rattle.bg_c.specs.Rooms.{PutsText};
-ghost use Rattle.bg_c.specs.Sets.{Gives, Sets};
+ghost use Rattle.bg_c.specs.Sets.{Gives, GivesBeside, Sets};
+ghost use Rattle.bg_c.specs.Status.{status_code};
 
 use crate::statuses::Status;
 
@@ -47,4 +48,25 @@ pub(crate) fn set<T: Copy>(made: Result<T, Status>, place: &mut T) -> u32
         }
         Err(why) => why.code(),
     }
+}
+
+/// Puts the text that was made into the room, and sets a place to what goes with it where the text
+/// fits; or returns the status that says why there is none.
+pub(crate) fn give_beside<T: Copy>(
+    made: Result<(T, Vec<u8>), Status>,
+    place: &mut T,
+    room: &mut [u8],
+    needed: &mut usize,
+) -> Status
+    ensures { GivesBeside made room.old needed.old place.old (status_code result) room.new needed.new place.new }
+{
+    let (beside, text) = match made {
+        Ok(made) => made,
+        Err(why) => return why,
+    };
+    let Status::Ok = put(&text, room, needed) else {
+        return Status::NoRoom;
+    };
+    *place = beside;
+    Status::Ok
 }

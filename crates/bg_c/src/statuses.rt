@@ -55,6 +55,10 @@ pub enum Status {
     Closed,
     /// The handle is a copy, or was moved.
     Copied,
+    /// The packet says another sender.
+    OtherSender,
+    /// The position has no XGID.
+    NoXgid,
 }
 
 impl Status {
@@ -90,6 +94,8 @@ impl Status {
             Status::Busy => 22,
             Status::Closed => 23,
             Status::Copied => 24,
+            Status::OtherSender => 25,
+            Status::NoXgid => 26,
         }
     }
 
@@ -124,6 +130,8 @@ impl Status {
             22 => Status::Busy,
             23 => Status::Closed,
             24 => Status::Copied,
+            25 => Status::OtherSender,
+            26 => Status::NoXgid,
             _ => return None,
         })
     }
@@ -160,6 +168,8 @@ impl Status {
             Status::Busy => "another call is inside the handle",
             Status::Closed => "the handle was closed",
             Status::Copied => "the handle is a copy, or was moved after it was opened",
+            Status::OtherSender => "the packet says another sender",
+            Status::NoXgid => "the position has no XGID",
         }
     }
 }

@@ -5,7 +5,7 @@ ghost use Rattle.bg_c.specs.Terms.{rules_numbered, terms_numbered};
 use bg_match::{LONGEST_MATCH, Rules, SHORTEST_MATCH, Terms};
 
 /// Returns the rules of a number, 1 or 2.
-fn rules_numbered(number: u32) -> Option<Rules>
+pub(crate) fn rules_numbered(number: u32) -> Option<Rules>
     ensures { result ≡ rules_numbered number }
 {
     match number {

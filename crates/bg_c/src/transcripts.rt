@@ -25,7 +25,7 @@ impl From<TranscriptFault> for Status {
 }
 
 /// Returns the record of a transcript.
-fn record(alloc: Global, transcript: &[u8]) -> Result<Record, Status>
+pub(crate) fn record(alloc: Global, transcript: &[u8]) -> Result<Record, Status>
     ensures read { IfOk result (ReadsTranscript 0 transcript.now) }
     ensures refused { IfErr result (IsNotFine transcript.now) }
 {

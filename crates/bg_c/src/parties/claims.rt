@@ -4,16 +4,16 @@ ghost use Rattle.std.specs.Global.{Vec};
 ghost use Rattle.bg_match.specs.declared.actions.Action.TheVariants.{Resign};
 ghost use Rattle.bg_party.specs.Claims.{MayClaim};
 ghost use Rattle.bg_text.specs.Entries.EntryText.{action_text};
-ghost use Rattle.bg_c.specs.Claims.{GivesClaim, MakesClaim, TriesText, TriesOf, player_numbered};
+ghost use Rattle.bg_c.specs.Claims.{MakesClaim, TriesText, TriesOf, player_numbered};
 ghost use Rattle.bg_c.specs.Handle.{Held};
-ghost use Rattle.bg_c.specs.Sets.{Sets};
+ghost use Rattle.bg_c.specs.Sets.{GivesBeside, Sets};
 ghost use Rattle.bg_c.specs.Status.{status_code};
 ghost use Rattle.bg_c.specs.declared.statuses.Status.{Status as AStatus};
 ghost use Rattle.bg_c.specs.declared.statuses.Status.TheVariants.{NotOpen};
 
 use crate::handle::Handle;
 use crate::parties::play::why_after;
-use crate::rooms::{put, set};
+use crate::rooms::{give_beside, set};
 use crate::statuses::Status;
 use crate::turns::put_move;
 use bg_board::{Die, Player};
@@ -83,35 +83,14 @@ pub extern "C" fn bg_proved_party_claim(
     ensures closed { handle.old.value ≡ None → (result ≡ status_code NotOpen) × (number.new ≡ number.old)
         × (out.new ≡ out.old) × (needed.new ≡ needed.old) }
     ensures claim { (party : Held) → handle.old.value ≡ Some party → (made : Result (ℕ × Vec ℕ) AStatus)
-        × MakesClaim party made × GivesClaim made out.old needed.old number.old result out.new needed.new number.new }
+        × MakesClaim party made × GivesBeside made out.old needed.old number.old result out.new needed.new number.new }
 {
     let Some(party) = handle.take(alloc) else {
         return Status::NotOpen.code();
     };
     let made = claim(alloc, &party);
     handle.put(party);
-    give_claim(made, number, out, needed).code()
-}
-
-/// Puts the text of a claim into the room, and sets its number where it fits; or returns the status
-/// that says why there is none.
-fn give_claim(
-    made: Result<(Number, Vec<u8>), Status>,
-    number: &mut u32,
-    out: &mut [u8],
-    needed: &mut usize,
-) -> Status
-    ensures { GivesClaim made out.old needed.old number.old (status_code result) out.new needed.new number.new }
-{
-    let (found, text) = match made {
-        Ok(made) => made,
-        Err(why) => return why,
-    };
-    let Status::Ok = put(&text, out, needed) else {
-        return Status::NoRoom;
-    };
-    *number = found;
-    Status::Ok
+    give_beside(made, number, out, needed).code()
 }
 
 /// Returns the player of a number, 1 X or 2 O.

@@ -1,10 +1,11 @@
 //! The play of parties: entries of their own, packets, claims, and what they send.
 ghost use Rattle.std.specs.Prelude.{◌≡◌, ℕ, List, None, Some, Result, slice_get};
+ghost use Rattle.bg_wire.specs.Packets.PacketText.{IsPacket};
 ghost use Rattle.bg_wire.specs.declared.packets.Packet.{Packet as APacket};
 ghost use Rattle.bg_c.specs.Answers.{due_status, role_status};
 ghost use Rattle.bg_c.specs.Datagrams.{datagram_of};
 ghost use Rattle.bg_c.specs.Handle.{Held};
-ghost use Rattle.bg_c.specs.PartyCalls.{ChoosesText, DueAnswer, HeldDues, HeldTicks, TakesBytes, why_after};
+ghost use Rattle.bg_c.specs.PartyCalls.{ChoosesText, DueAnswer, HeldDues, HeldTicks, TakesBytes, TakesPacket, why_after};
 ghost use Rattle.bg_c.specs.Sets.{Sets, with_status};
 ghost use Rattle.bg_c.specs.Status.{status_code};
 ghost use Rattle.bg_c.specs.declared.datagrams.Datagram.{Datagram as ADatagram};
@@ -21,7 +22,7 @@ use bg_match::Number;
 use bg_parties::{Party, RoleFault};
 use bg_party::ChooseFault;
 use bg_text::parse_action;
-use bg_wire::decode;
+use bg_wire::{Packet, decode};
 use std::alloc::Global;
 
 /// Adds the entry that is the referee's to add: opens a game with the dice of a random word, or
@@ -83,9 +84,21 @@ pub extern "C" fn bg_proved_party_take(
     let Some(mut party) = handle.take(alloc) else {
         return Status::NotOpen.code();
     };
-    let taken = take(&mut party, packet, word);
+    let made = take(&mut party, packet, word);
     handle.put(party);
-    match taken {
+    set_both(made, outcome, answer)
+}
+
+/// Sets the outcome and the answer to those that were made, if they were, and returns the number of
+/// the status.
+pub(crate) fn set_both(
+    made: Result<(Outcome, Datagram), Status>,
+    outcome: &mut Outcome,
+    answer: &mut Datagram,
+) -> u32
+    ensures { Sets made (outcome.old, answer.old) result (outcome.new, answer.new) }
+{
+    match made {
         Ok((told, reply)) => {
             *outcome = told;
             *answer = reply;
@@ -100,7 +113,19 @@ fn take(party: &mut Party, bytes: &[u8], word: u32) -> Result<(Outcome, Datagram
     ensures { TakesBytes party.old bytes.now word result party.new }
 {
     let packet = decode(bytes)?;
-    let taken = party.take(&packet, word);
+    take_packet(party, &packet, word)
+}
+
+/// Takes a packet, and returns the outcome and what to send back.
+pub(crate) fn take_packet(
+    party: &mut Party,
+    packet: &Packet,
+    word: u32,
+) -> Result<(Outcome, Datagram), Status>
+    requires { IsPacket packet.now }
+    ensures { TakesPacket party.old packet.now word result party.new }
+{
+    let taken = party.take(packet, word);
     match Outcome::of(&taken) {
         Some(outcome) => Ok((outcome, Datagram::reply(&taken))),
         None => Err(Status::Memory),

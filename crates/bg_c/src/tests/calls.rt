@@ -4,7 +4,9 @@ use crate::judge::{VerdictFields, bg_judge};
 use crate::packets::{PacketFields, bg_packet_read};
 use crate::saved_texts::{PeekedFields, bg_saved_peek};
 use crate::slots::{SavedFields, bg_slots_read};
-use crate::tests::words::{BLANK, are_numbers, bytes_of, is_given, number, word};
+use crate::tests::named_bytes::bytes_of;
+use crate::tests::text_calls::wrote;
+use crate::tests::words::{BLANK, are_numbers, is_given, number, word};
 use crate::transcripts::{bg_transcript_board, bg_transcript_turns};
 use crate::{bg_abi, bg_status_text, bg_version};
 use std::alloc::Global;
@@ -202,7 +204,7 @@ fn gave_text(rt: &impl Abort, alloc: Global, name: &str, words: &str, wanted: &s
         "judge" => judges(rt, alloc, words, wanted),
         "board_after" => writes(rt, alloc, true, words, wanted),
         "turns_after" => writes(rt, alloc, false, words, wanted),
-        _ => panic!(rt; "no such call: {name}"),
+        _ => wrote(rt, alloc, name, words, wanted),
     }
 }
 

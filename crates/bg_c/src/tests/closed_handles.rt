@@ -14,6 +14,7 @@ board 8: NOT_OPEN 99; kept
 transcript 8: NOT_OPEN 99; kept
 turns 8: NOT_OPEN 99; kept
 lines 8 1 1: NOT_OPEN 99; kept
+shown 8: NOT_OPEN 99 99 99 99 99 99; kept
 claim 8: NOT_OPEN 99 99; kept
 
 a_handle_that_is_not_open_does_nothing
@@ -22,6 +23,8 @@ choose roll: NOT_OPEN 99 99
 try 1 roll: NOT_OPEN 99 99
 options: NOT_OPEN 999
 take WANT: NOT_OPEN 99 99 99; kept
+take_from 3 WANT: NOT_OPEN 99 99 99; kept
+heard 3 0: NOT_OPEN 99 99 99; kept
 tick: NOT_OPEN; kept; kept
 
 a_handle_that_is_not_open_saves_nothing

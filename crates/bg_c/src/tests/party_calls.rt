@@ -1,59 +1,21 @@
 //! The calls of a party, by the words of plays. Each stands in a short function without a contract,
 //! which keeps what it ensures out of other proofs. It sets places that had 99 or 7 before.
-use crate::datagrams::Datagram;
 use crate::handle::Handle;
-use crate::outcomes::Outcome;
 use crate::parties::bg_proved_party_close;
 use crate::parties::openings::{bg_proved_party_begin, bg_proved_party_resume};
-use crate::parties::play::{
-    bg_proved_party_take, bg_proved_party_tick, bg_proved_referee_due, bg_proved_seat_choose,
-};
+use crate::parties::play::{bg_proved_referee_due, bg_proved_seat_choose};
 use crate::parties::saves::{bg_proved_party_mark_saved, bg_proved_party_to_save};
 use crate::parties::texts::{
     bg_proved_party_board, bg_proved_party_transcript, bg_proved_party_turns,
 };
 use crate::tests::calls::{NO_SAVED, is_saved, size};
 use crate::tests::claim_calls::{claims, tries};
-use crate::tests::shown_calls::writes_lines;
-use crate::tests::words::{BLANK, are_numbers, bytes_of, is_given, number, parted, word};
+use crate::tests::named_bytes::bytes_of;
+use crate::tests::packet_calls::{takes, ticks};
+use crate::tests::shown_calls::{shows, writes_lines};
+use crate::tests::words::{BLANK, are_numbers, is_given, number, word};
 use std::alloc::Global;
 use std::process::Abort;
-
-/// A datagram that no call sets.
-const NO_DATAGRAM: Datagram = Datagram {
-    to: 99,
-    length: 99,
-    reserved: [99; 2],
-    bytes: [9; 128],
-};
-
-/// A datagram that sends nothing.
-const NOTHING: Datagram = Datagram {
-    to: 0,
-    length: 0,
-    reserved: [0; 2],
-    bytes: [0; 128],
-};
-
-/// Returns whether a datagram sends these bytes to a party, followed by 0.
-fn sends(datagram: &Datagram, to: u32, bytes: &[u8]) -> bool {
-    let Some((packet, rest)) = datagram.bytes.split_at_checked(bytes.len()) else {
-        return false;
-    };
-    let is_whole = datagram.to == to && datagram.length as usize == bytes.len();
-    let is_blank = datagram.reserved == NOTHING.reserved;
-    is_whole && is_blank && packet == bytes && NOTHING.bytes.starts_with(rest)
-}
-
-/// Returns whether a datagram is this one: `OPENING to 3`, `nothing`, or `kept` where no call has
-/// set it.
-fn is_datagram(rt: &impl Abort, datagram: &Datagram, words: &str) -> bool {
-    match words {
-        "kept" => *datagram == NO_DATAGRAM,
-        "nothing" => *datagram == NOTHING,
-        _ => sends(datagram, number(rt, words, 2), bytes_of(word(rt, words, 0))),
-    }
-}
 
 /// Checks a line such as `begin 0 1 1 1 - -: OK`. It gives the party, the match, its length, its
 /// rules, and both slots.
@@ -109,43 +71,6 @@ fn chooses(rt: &impl Abort, alloc: Global, handle: &mut Handle, words: &str, wan
     let (mut made, mut why) = (99, 99);
     let status = bg_proved_seat_choose(alloc, handle, words.as_bytes(), &mut made, &mut why);
     are_numbers(rt, &[status as usize, made as usize, why as usize], wanted)
-}
-
-/// Returns whether a status and an outcome have these numbers.
-fn is_outcome(rt: &impl Abort, status: u32, outcome: &Outcome, numbers: &str) -> bool {
-    let found = [
-        status as usize,
-        outcome.kind as usize,
-        outcome.number as usize,
-        outcome.why as usize,
-    ];
-    are_numbers(rt, &found, numbers)
-}
-
-/// Checks a line such as `take WANT: OK 2 0 0; OPENING to 3`. It gives the packet; after the colon
-/// come the status, the kind, number and reason of the outcome, and the answer.
-fn takes(rt: &impl Abort, alloc: Global, handle: &mut Handle, words: &str, wanted: &str) -> bool {
-    let mut outcome = Outcome {
-        kind: 99,
-        number: 99,
-        why: 99,
-        reserved: [99; 5],
-    };
-    let mut answer = NO_DATAGRAM;
-    let status = bg_proved_party_take(alloc, handle, bytes_of(words), 0, &mut outcome, &mut answer);
-    let (numbers, sent) = parted(rt, wanted, "; ");
-    is_outcome(rt, status, &outcome, numbers) && is_datagram(rt, &answer, sent)
-}
-
-/// Checks a line such as `tick: OK; WANT to 0; nothing`, with the status and both datagrams.
-fn ticks(rt: &impl Abort, alloc: Global, handle: &mut Handle, wanted: &str) -> bool {
-    let (mut first, mut second) = (NO_DATAGRAM, NO_DATAGRAM);
-    let status = bg_proved_party_tick(alloc, handle, &mut first, &mut second);
-    let (word, sent) = parted(rt, wanted, "; ");
-    let (one, other) = parted(rt, sent, "; ");
-    are_numbers(rt, &[status as usize], word)
-        && is_datagram(rt, &first, one)
-        && is_datagram(rt, &second, other)
 }
 
 /// Checks a line such as `save 64: OK 1 1 27; any`. It gives the room; after the colon come the
@@ -211,8 +136,9 @@ pub(crate) fn played(
         "choose" => Some(chooses(rt, alloc, handle, words, wanted)),
         "claim" => Some(claims(rt, alloc, handle, words, wanted)),
         "try" => Some(tries(rt, alloc, handle, words, wanted)),
-        "take" => Some(takes(rt, alloc, handle, words, wanted)),
+        "take" | "take_from" | "heard" => Some(takes(rt, alloc, handle, name, words, wanted)),
         "lines" => Some(writes_lines(rt, alloc, handle, words, wanted)),
+        "shown" => Some(shows(rt, alloc, handle, words, wanted)),
         "tick" => Some(ticks(rt, alloc, handle, wanted)),
         _ => None,
     }

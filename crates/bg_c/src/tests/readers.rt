@@ -38,7 +38,7 @@ turns 8: NOT_TO_MOVE 99; kept
 
 statuses_say_what_they_mean
 abi: 2
-version: 202
+version: 203
 status 80 0: OK; it is done
 status 80 1: OK; the text does not fit into the room
 status 80 2: OK; there was no memory
@@ -64,7 +64,9 @@ status 80 21: OK; the bytes are no saved text
 status 80 22: OK; another call is inside the handle
 status 80 23: OK; the handle was closed
 status 80 24: OK; the handle is a copy, or was moved after it was opened
-status 80 25: BAD_ARGUMENT 99; kept
+status 80 25: OK; the packet says another sender
+status 80 26: OK; the position has no XGID
+status 80 27: BAD_ARGUMENT 99; kept
 ";
 
 #[test]

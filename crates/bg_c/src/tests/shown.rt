@@ -51,6 +51,21 @@ take CLAIM: OK 3 2 0; nothing
 told: OK 1
 lines 64 1 1: OK 9; OPENING_LINE
 lines 64 1 2: OK 24; MOVED_LINES
+
+what_is_told_is_shown_at_once
+begin 0 1 1 1 - -: OK
+due 12: OK 1
+shown 64: OK 0 1 0 0 0 9; LENGTH_1
+save 64: OK 1 1; any
+mark 1: OK
+shown 64: OK 1 1 0 0 1 18; OPENED
+take CLAIM: OK 3 2 0; nothing
+shown 64: OK 1 2 0 0 1 18; OPENED
+shown 17: NO_ROOM 99 99 99 99 99 18; kept
+begin 1 1 1 1 - -: OK
+take OPENING: OK 8 1 0; nothing
+choose move 8-5 6-5: OK 2 99
+shown 64: OK 1 1 2 0 1 18; OPENED
 ";
 
 #[test]

@@ -7,7 +7,7 @@ use std::alloc::Global;
 use std::process::Abort;
 
 /// What stands in a place that no call sets.
-const NO_STANDING: StandingFields = StandingFields {
+pub(crate) const NO_STANDING: StandingFields = StandingFields {
     match_length: 99,
     rules: 99,
     game: 99,

@@ -35,15 +35,17 @@ pub enum Status {
     Busy,
     Closed,
     Copied,
+    OtherSender,
+    NoXgid,
 }
 
 use Status::*;
 
 /// Every status, in the order of the numbers.
-pub const STATUSES: [Status; 23] = [
+pub const STATUSES: [Status; 25] = [
     Memory, BadArgument, NotOpen, WrongParty, NotAPacket, NotAnAction, Damaged, WrongMatch, WrongSave, SavesSpent,
     NotYourTurn, AlreadyClaimed, Illegal, NotDue, WordRefused, NotToMove, Refused, NotEmpty, NothingSaved, NotASave,
-    Busy, Closed, Copied,
+    Busy, Closed, Copied, OtherSender, NoXgid,
 ];
 
 const OK: u32 = 0;
@@ -226,6 +228,26 @@ impl Party {
         done(unsafe {
             raw::bg_party_take(self.0.get(), packet.as_ptr(), packet.len(), word, &mut outcome, &mut answer)
         })?;
+        let raw::Outcome { kind, number, why, .. } = outcome;
+        Ok(Taken { kind, number, why, answer: sent(&answer) })
+    }
+
+    /// The same of a packet whose sender is known: one that says another is refused, with `OtherSender`.
+    pub fn take_from(&mut self, sender: u32, packet: &[u8], word: u32) -> Result<Taken, Status> {
+        let (mut outcome, mut answer) = (raw::Outcome::default(), NOTHING);
+        done(unsafe {
+            raw::bg_party_take_from(
+                self.0.get(), sender, packet.as_ptr(), packet.len(), word, &mut outcome, &mut answer,
+            )
+        })?;
+        let raw::Outcome { kind, number, why, .. } = outcome;
+        Ok(Taken { kind, number, why, answer: sent(&answer) })
+    }
+
+    /// A referee hears that a peer is there and holds so many entries, as by a want of that peer.
+    pub fn heard(&mut self, peer: u32, held: u32) -> Result<Taken, Status> {
+        let (mut outcome, mut answer) = (raw::Outcome::default(), NOTHING);
+        done(unsafe { raw::bg_referee_heard(self.0.get(), peer, held, &mut outcome, &mut answer) })?;
         let raw::Outcome { kind, number, why, .. } = outcome;
         Ok(Taken { kind, number, why, answer: sent(&answer) })
     }

@@ -95,6 +95,22 @@ unsafe extern "C" {
         outcome: *mut Outcome,
         answer: *mut Datagram,
     ) -> u32;
+    pub fn bg_party_take_from(
+        party: *mut Party,
+        sender: u32,
+        packet: *const u8,
+        length: usize,
+        word: u32,
+        outcome: *mut Outcome,
+        answer: *mut Datagram,
+    ) -> u32;
+    pub fn bg_referee_heard(
+        party: *mut Party,
+        peer: u32,
+        held: u32,
+        outcome: *mut Outcome,
+        answer: *mut Datagram,
+    ) -> u32;
     pub fn bg_seat_choose(party: *mut Party, action: *const u8, length: usize, number: *mut u32, why: *mut u32) -> u32;
     pub fn bg_party_tick(party: *mut Party, first: *mut Datagram, second: *mut Datagram) -> u32;
     pub fn bg_party_to_save(
