@@ -13,6 +13,7 @@ mod slips;
 mod turn_lists;
 mod turn_words;
 mod unanswered;
+mod undoing;
 mod wishes;
 
 use crate::play::joining::Joining;

@@ -9,7 +9,7 @@ use crate::play::turn_words::{
 };
 use bg_board::Board;
 use bg_console::{allocated, no_memory};
-use bg_match::{Action, Entry, Phase};
+use bg_match::{Action, Phase};
 use bg_reports::Ending;
 use bg_table::turn_refusal_text;
 use bg_turns::{Dice, Turn, TurnFault, judge_turn};
@@ -29,14 +29,6 @@ const WRONG_HITS: &str =
     "this turn doesn't hit exactly where you marked it with `*`: leave the marks out, or mark all hits";
 
 const SEVERAL_TURNS: &[u8] = b"several turns are legal: `legal` lists them";
-
-/// The messages to a player who takes back what was typed of a turn, to one who typed nothing of it,
-/// and to one whose turn was played last.
-const TAKEN_BACK: &[u8] = b"what you typed of this turn is taken back";
-
-const NOTHING_TYPED: &[u8] = b"nothing to undo";
-
-const SENT: &[u8] = b"nothing to undo: a turn that was sent can't be taken back";
 
 impl<'a, R> Table<'a, R>
 where
@@ -238,28 +230,5 @@ where
         };
         let line = allocated(rt, so_far(rt.alloc(), self.player, &turn))?;
         self.screen.say(&line)
-    }
-
-    /// Returns whether the last entry is a turn of the player.
-    fn has_just_moved(&self) -> bool {
-        match self.seat.process.held() {
-            Some(record) => {
-                let last = record.len();
-                record.by(last) == Some(self.player)
-                    && matches!(record.entry(last), Some(Entry::Moved(_)))
-            }
-            None => false,
-        }
-    }
-
-    /// Forgets what was typed of a turn.
-    pub(super) fn undo(&mut self) -> Result<(), Ending> {
-        if self.typed.is_empty() {
-            let is_sent = self.claims_nothing() && self.has_just_moved();
-            return self.screen.say(if is_sent { SENT } else { NOTHING_TYPED });
-        }
-        self.typed.clear();
-        self.screen.say(TAKEN_BACK)?;
-        self.prompt()
     }
 }
