@@ -1,6 +1,5 @@
 -- The standing of a match before an entry.
 use Rattle.std.proofs.Common.{◌≡◌, ℕ, zero, suc, ◌+◌, ◌-◌, ◌≤◌, Bor, Option, Some, None, List, length, take, sym, ◌∙◌, ap, subst, add-one, arith, rules}
-use Rattle.std.specs.Prelude.{slice_get}
 use Rattle.std.specs.Option.{IsSome, option_copied}
 use Rattle.std.proofs.lemmas.Option.{slice_get-get_or}
 use Rattle.bg_board.specs.FromTo.{FromTo}
@@ -34,17 +33,17 @@ there_is xs (suc i) (Some x) first last h = search rules
 
 -- the entry of a number follows what stands before it
 pub follows : (terms : Terms) (entries : List Entry) (i : ℕ) (s : State) (e : Entry) → IsLegalRecord terms entries
-    → slice_get entries i ≡ Some e → StandsAt terms (take i entries) s → CanFollow s e
+    → at_number entries (i + 1) ≡ Some e → StandsAt terms (take i entries) s → CanFollow s e
 follows terms entries i s e legal at stands =
-    let here = entry_at (start_of terms) entries legal.1.0 i e legal.1.1 at in
+    let here = entry_at (start_of terms) entries legal.1.0 i e legal.1.1 (rw add-one at at) in
     let same = one_standing terms (take i entries) here.0 s here.2 stands in
     (here.1, subst (λ (x : State). Follows x e here.1) same here.3)
 
 -- and leads on
 pub stands_on : (terms : Terms) (entries : List Entry) (i : ℕ) (s t : State) (e : Entry) → IsLegalRecord terms entries
-    → slice_get entries i ≡ Some e → StandsAt terms (take i entries) s → Follows s e t → StandsAt terms (take (i + 1) entries) t
+    → at_number entries (i + 1) ≡ Some e → StandsAt terms (take i entries) s → Follows s e t → StandsAt terms (take (i + 1) entries) t
 stands_on terms entries i s t e legal at stands next =
-    let here = entry_at (start_of terms) entries legal.1.0 i e legal.1.1 at in
+    let here = entry_at (start_of terms) entries legal.1.0 i e legal.1.1 (rw add-one at at) in
     rw (add-one i, here.4) (Leads-push (start_of terms) (take i entries) e s t stands next)
 
 -- the same by its number
@@ -53,7 +52,7 @@ pub follows_before : (log : Log) (number : ℕ) (s : State) (e : Entry) → IsLe
 follows_before log zero s e legal first at stands = absurd (omega arith)
 follows_before log (suc i) s e legal first at stands =
     let back : suc i - 1 ≡ i = omega arith in
-    follows log.terms log.entries i s e legal at (subst (λ (n : ℕ). StandsAt log.terms (take n log.entries) s) back stands)
+    follows log.terms log.entries i s e legal (rw add-one at) (subst (λ (n : ℕ). StandsAt log.terms (take n log.entries) s) back stands)
 
 -- the player who made an entry acts before it
 pub acts_before : (log : Log) (number : ℕ) (player : Player) (s : State) → IsMadeBy log number player → StandsBefore log number s

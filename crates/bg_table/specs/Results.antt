@@ -31,19 +31,25 @@ scores_words t winner between = decimal (score_of t winner) ++ between ++ decima
 unfoldable pub game_words : State → Player → ℕ → List ℕ
 game_words t winner points = points_words points ++ scores_words t winner (codes " to ")
 
--- a gammon counts twice the cube, and a backgammon three times: as in "a gammon, 4 points, and "
-unfoldable pub level_words : ℕ → ℕ → List ℕ
+-- as in "a gammon, 4 points, and "
+unfoldable pub named_words : List ℕ → ℕ → List ℕ
+named_words level points = level ++ decimal points ++ codes " points, and "
+
+-- a gammon counts twice the cube, and a backgammon three times
+abbrev pub level_words : ℕ → ℕ → List ℕ
 level_words cube points =
-    if points == 2 * cube then codes "a gammon, " ++ decimal points ++ codes " points, and "
-    else if points == 3 * cube then codes "a backgammon, " ++ decimal points ++ codes " points, and "
+    if points == 2 * cube then named_words (codes "a gammon, ") points
+    else if points == 3 * cube then named_words (codes "a backgammon, ") points
     else []
 
--- as in "the match, 5-3", or "a gammon, 2 points, and the match, 6-3". The level is named where the
--- match stood in its last game before
+-- the level of the game that ended the match, where it was played before too
+abbrev pub last_level_words : State → State → ℕ → List ℕ
+last_level_words s t points = if s.game == t.game then level_words t.cube.value points else []
+
+-- as in "the match, 5-3", or "a gammon, 2 points, and the match, 6-3"
 unfoldable pub match_words : State → State → Player → ℕ → List ℕ
 match_words s t winner points =
-    (if s.game == t.game then level_words t.cube.value points else [])
-    ++ codes "the match, " ++ scores_words t winner (codes "-")
+    last_level_words s t points ++ codes "the match, " ++ scores_words t winner (codes "-")
 
 abbrev pub worth_words : Phase → State → State → Player → ℕ → List ℕ
 worth_words (Over p) s t winner points = match_words s t winner points

@@ -95,7 +95,10 @@ fn put_told(
 {
     match unmoved_dice(log, number) {
         Some(dice) => put_not_moved(out, player, dice),
-        None => put_entry(out, before, player, log.entry(number).unwrap()),
+        None => {
+            let entry = log.entry(number).unwrap();
+            put_entry(out, before, player, entry)
+        }
     }
 }
 

@@ -1,7 +1,8 @@
 //! The result of a game.
 ghost use Rattle.std.specs.Prelude.{◌≡◌, ◌++◌, IfOk, OnOk};
-ghost use Rattle.bg_table.specs.Results.{gained as points_gained, game_words, level_words, match_words, points_words};
-ghost use Rattle.bg_table.specs.Results.{result_words, scores_words, winner_words, won_words, worth_words};
+ghost use Rattle.bg_table.specs.Results.{gained as points_gained, game_words, last_level_words, level_words};
+ghost use Rattle.bg_table.specs.Results.{match_words, named_words, points_words, result_words, scores_words};
+ghost use Rattle.bg_table.specs.Results.{winner_words, won_words, worth_words};
 
 use crate::headings::score_for;
 use bg_board::Player;
@@ -120,8 +121,7 @@ fn put_game(
     put_scores(out, after, winner, " to ")
 }
 
-/// Appends that the match is won, and its score. Names the gammon or backgammon that ended it, where
-/// both standings are in its last game.
+/// Appends that the match is won, and its score, behind the level of its last game.
 #[tactic(auto, unfolding(crate::specs::Results::match_words))]
 fn put_match(
     out: &mut Vec<u8>,
@@ -132,25 +132,46 @@ fn put_match(
 ) -> Result<(), AllocError>
     ensures { OnOk result (out.new.items ≡ out.old.items ++ match_words before.now after.now winner points) }
 {
-    if before.game() == after.game() {
-        put_level(out, after.cube().value, points)?;
-    }
+    put_last_level(out, before, after, points)?;
     put_text(out, "the match, ")?;
     put_scores(out, after, winner, "-")
 }
 
+/// Appends the level of the game that ended the match, where both standings are in it.
+fn put_last_level(
+    out: &mut Vec<u8>,
+    before: &Standing,
+    after: &Standing,
+    points: u16,
+) -> Result<(), AllocError>
+    ensures { OnOk result (out.new.items ≡ out.old.items ++ last_level_words before.now after.now points) }
+{
+    if before.game() == after.game() {
+        put_level(out, after.cube().value, points)
+    } else {
+        Ok(())
+    }
+}
+
 /// Appends the level of a game with this cube and these points, unless it is a normal one.
-#[tactic(auto, unfolding(crate::specs::Results::level_words))]
 fn put_level(out: &mut Vec<u8>, cube: u8, points: u16) -> Result<(), AllocError>
     ensures { OnOk result (out.new.items ≡ out.old.items ++ level_words cube points) }
 {
     if points == 2 * u16::from(cube) {
-        put_text(out, "a gammon, ")?;
+        put_named(out, "a gammon, ", points)
     } else if points == 3 * u16::from(cube) {
-        put_text(out, "a backgammon, ")?;
+        put_named(out, "a backgammon, ", points)
     } else {
-        return Ok(());
+        Ok(())
     }
+}
+
+/// Appends a level and the points that it counts.
+#[tactic(auto, unfolding(crate::specs::Results::named_words))]
+fn put_named(out: &mut Vec<u8>, level: &str, points: u16) -> Result<(), AllocError>
+    ensures { OnOk result (out.new.items ≡ out.old.items ++ named_words level.now points) }
+{
+    put_text(out, level)?;
     put_number(out, points.into())?;
     put_text(out, " points, and ")
 }
