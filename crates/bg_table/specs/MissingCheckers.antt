@@ -24,7 +24,7 @@ stand_words checkers = if checkers == 1 then codes " has a checker of " else cod
 -- as in "point 12 has checkers of O, none of yours"
 unfoldable pub others_words : Player → ℕ → ℕ → List ℕ
 others_words player point checkers =
-    codes "point " ++ decimal point ++ stand_words checkers ++ letter (opponent player) ++ codes ", none of yours"
+    place_words point ++ stand_words checkers ++ letter (opponent player) ++ codes ", none of yours"
 
 -- a player has no checker on a point: the other one may have some there, as the step is tried
 abbrev pub missing_words : Position → Position → Player → ℕ → List ℕ

@@ -32,8 +32,7 @@ pub(crate) fn put_missing(
 fn put_others(out: &mut Vec<u8>, player: Player, point: u8, others: u8) -> Result<(), AllocError>
     ensures { OnOk result (out.new.items ≡ out.old.items ++ others_words player point others) }
 {
-    put_text(out, "point ")?;
-    put_number(out, point.into())?;
+    put_place(out, point)?;
     put_text(out, stand(others))?;
     put_text(out, letter(player.opponent()))?;
     put_text(out, ", none of yours")?;
