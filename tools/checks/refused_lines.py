@@ -147,10 +147,36 @@ def other_cube(player, kind, screen):
     return None
 
 
-def crawford(player, kind, screen):
-    headings = re.findall(r"^length \d+, game \d+(.*)$", screen, re.M)
-    if kind == "roll" and headings and headings[-1] == ", Crawford game":
-        return "d", r"nobody can double in the Crawford game"
+def without_cube(screen):
+    """Why nobody can double in the game of this screen, if it is played without the cube."""
+    length, mark = re.findall(r"^length (\d+), game \d+(.*)$", screen, re.M)[-1]
+    if length == "1":
+        return r"a\s+match\s+to\s+one\s+point\s+is\s+played\s+without\s+the\s+cube"
+    return r"nobody can double in the Crawford game" if mark == ", Crawford game" else None
+
+
+def no_cube(player, kind, screen):
+    why = without_cube(screen) if kind == "roll" else None
+    return ("d", why) if why else None
+
+
+def late_double(player, kind, screen):
+    """A double behind the roll: what forbids it in the whole game is said first."""
+    if kind != "move":
+        return None
+    other = "XO".replace(player, "")
+    cubes = re.findall(r"^cube: \d+ (.*)$", screen, re.M)
+    if cubes and cubes[-1] == f"of {other}":
+        return "double", rf"the cube is {other}'s, so you can't double"
+    return "double", without_cube(screen) or r"only\s+before\s+you\s+roll"
+
+
+def wrong_hit(player, kind, screen):
+    """The first step of a turn, with the mark of a hit where it hits nothing."""
+    board = seen(player, kind, screen)
+    for steps, hits, _ in board.turns() if board else ():
+        if len(steps) > 1 and not hits[0] and steps[0][1] != OFF:
+            return f"{shown([steps[0]], '/')}*", r"doesn't\s+hit\s+exactly\s+where"
     return None
 
 
@@ -243,5 +269,6 @@ def at_cap(player, kind, screen):
     return None
 
 
-BY_BOARD = (held, held_by_both, bar_first, not_home, higher, wrong_hits, other_cube, no_die, no_bar, which_way)
+BY_BOARD = (held, held_by_both, bar_first, not_home, higher, wrong_hits, wrong_hit, other_cube, late_double, no_die, no_bar,
+            which_way)
 BY_TURN = (larger_die, both_dice)

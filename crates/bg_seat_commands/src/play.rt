@@ -10,9 +10,11 @@ mod players;
 mod screens;
 mod showing;
 mod single_dice;
+mod slips;
 mod turn_lists;
 mod turn_words;
 mod unanswered;
+mod undoing;
 mod wishes;
 
 use crate::play::joining::Joining;
@@ -24,7 +26,7 @@ use crate::typed_lines::TypedLines;
 use bg_board::Player;
 use bg_command_parts::Audience;
 use bg_console::{Terminal, allocated, unread};
-use bg_match::{Number, Standing};
+use bg_match::{Action, Level, Number, Standing};
 use bg_options::PlayOptions;
 use bg_processes::{Failures, Going, Opponent};
 use bg_reports::Ending;
@@ -179,7 +181,7 @@ where
             Wish::Legal => self.list_turns(0)?,
             Wish::More => self.list_turns(self.listed)?,
             Wish::Undo => self.undo()?,
-            Wish::Resign => self.ask_level()?,
+            Wish::Resign => self.resign()?,
             Wish::Act(action) => self.choose(action)?,
             Wish::Move if is_asked && typed_steps(self.rt.alloc(), line).is_err() => {
                 self.ask_level()?;
@@ -187,6 +189,16 @@ where
             Wish::Move => self.move_by(line)?,
         }
         Ok(false)
+    }
+
+    /// Asks at which level the player resigns, or refuses at once where they may not.
+    fn resign(&mut self) -> Result<(), Ending> {
+        if self.may_resign() {
+            self.ask_level()
+        } else {
+            // At any level, as it is refused at each.
+            self.choose(Action::Resign(Level::Normal))
+        }
     }
 
     /// Asks at which level the player resigns.

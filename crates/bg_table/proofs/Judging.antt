@@ -8,9 +8,10 @@ use Rattle.bg_board.specs.declared.dice.Die.{Die}
 use Rattle.bg_board.specs.declared.players.Player.{Player}
 use Rattle.bg_board.specs.declared.steps.StepFault.{StepFault}
 use Rattle.bg_turns.specs.declared.throws.Dice.{Dice}
-use Rattle.bg_table.specs.StepRefusals.{IsFaultOf, IsReason, judging_pips}
-use Rattle.bg_table.specs.declared.step_refusals.DiceLeft.{DiceLeft}
-use Rattle.bg_table.specs.declared.step_refusals.DiceLeft.TheVariants.{Both, One}
+use Rattle.bg_table.specs.DiceLeft.{judging_pips}
+use Rattle.bg_table.specs.StepRefusals.{IsFaultOf, IsReason}
+use Rattle.bg_table.specs.declared.dice_left.DiceLeft.{DiceLeft}
+use Rattle.bg_table.specs.declared.dice_left.DiceLeft.TheVariants.{Both, One}
 
 -- neither die leads where the step ends
 pub by_neither : (b : Position) (player : Player) (dice : Dice) (left : DiceLeft) (step : FromTo) (die : ℕ) (why : Option StepFault)

@@ -2,6 +2,7 @@ pub mod Counted
 pub mod Distinct
 pub mod Followed
 pub mod Judging
+pub mod Earlier
 pub mod Latest
 pub mod Listed
 pub mod Named

@@ -17,8 +17,9 @@ use Rattle.bg_turns.specs.Turn.{IsPlayable}
 use Rattle.bg_turns.specs.declared.throws.Dice.{Dice}
 use Rattle.bg_text.specs.Entries.EntryText.{step_text}
 use Rattle.bg_table.specs.Laws.{NamesStep}
-use Rattle.bg_table.specs.StepRefusals.{IsRefusedAt, judging_pips, reason_words, refusal_words, refused_words}
-use Rattle.bg_table.specs.declared.step_refusals.DiceLeft.{DiceLeft}
+use Rattle.bg_table.specs.DiceLeft.{judging_pips}
+use Rattle.bg_table.specs.StepRefusals.{IsRefusedAt, reason_words, refusal_words, refused_words}
+use Rattle.bg_table.specs.declared.dice_left.DiceLeft.{DiceLeft}
 use Rattle.bg_table.specs.declared.step_refusals.StepRefusal.{StepRefusal}
 
 -- the die is one of the two
@@ -118,7 +119,7 @@ refused : (b : Position) (player : Player) (dice : Dice) (left : DiceLeft) (step
     → n < length steps → AreThrown b player dice (take n steps) → IsRefusedAt b player dice left steps n refusal
     → (one : StepRefusal) × (refusal ≡ Some one) × (slice_get steps n ≡ Some one.step)
 refused b player dice left [] n refusal within played h = absurd (omega arith)
-refused b player dice left (step ∷ rest) zero refusal within played h = (record { step = step; fault = h.0 }, h.2, refl)
+refused b player dice left (step ∷ rest) zero refusal within played h = (record { step = step; tried = b; fault = h.0 }, h.2, refl)
 refused b player dice left (step ∷ rest) (suc n) refusal within played (inl h) =
     refused (after_step b player step) player dice left rest n refusal (omega arith) played.1 h.1
 refused b player dice left (step ∷ rest) (suc n) refusal within played (inr h) =
@@ -134,10 +135,10 @@ more_steps b player dice steps n within played not_all = elim (cases_lt n (lengt
 
 words : (b : Position) (player : Player) (dice : Dice) (refusal : StepRefusal)
     → refusal_words b player dice (Some refusal) ++ 10 ∷ []
-    ≡ step_text refusal.step ++ codes " can't be played: " ++ (reason_words b player dice refusal.step refusal.fault ++ 10 ∷ [])
+    ≡ step_text refusal.step ++ codes " can't be played: " ++ (reason_words b player dice refusal refusal.fault ++ 10 ∷ [])
 unfolding refusal_words refused_words
 words b player dice refusal =
-    append_assoc (step_text refusal.step ++ codes " can't be played: ") (reason_words b player dice refusal.step refusal.fault) (10 ∷ [])
+    append_assoc (step_text refusal.step ++ codes " can't be played: ") (reason_words b player dice refusal refusal.fault) (10 ∷ [])
 
 pub names_step : NamesStep
 names_step b player dice steps playable line wrong (left, refusal, are_left, at, said) =
@@ -145,4 +146,4 @@ names_step b player dice steps playable line wrong (left, refusal, are_left, at,
     let within = more_steps b player (dice_list dice) steps playable part.within part.playable wrong.0 in
     let of = refused b player dice left steps playable refusal within (thrown b player dice (take playable steps) part.playable) at in
     let line_of = ap (λ (r : Option StepRefusal). refusal_words b player dice r ++ 10 ∷ []) of.1 in
-    (of.0.step, reason_words b player dice of.0.step of.0.fault ++ 10 ∷ [], of.2, said ∙ line_of ∙ words b player dice of.0)
+    (of.0.step, reason_words b player dice of.0 of.0.fault ++ 10 ∷ [], of.2, said ∙ line_of ∙ words b player dice of.0)

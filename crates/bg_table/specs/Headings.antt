@@ -1,5 +1,5 @@
 -- The match, the score, the pip counts and the cube, in words.
-use Rattle.std.specs.Prelude.{ℕ, ◌*◌, Bool, true, false, Option, Some, None, List, [], ◌++◌, codes}
+use Rattle.std.specs.Prelude.{ℕ, ◌*◌, ◌==◌, Bool, true, false, Option, Some, None, List, [], ◌++◌, codes, if◌then◌else◌}
 use Rattle.std.specs.Fmt.{decimal}
 use Rattle.bg_board.specs.Position.{Position, opponent}
 use Rattle.bg_board.specs.declared.players.Player.{Player}
@@ -7,23 +7,31 @@ use Rattle.bg_match.specs.State.{State, score_of}
 use Rattle.bg_match.specs.Terms.{match_length}
 use Rattle.bg_match.specs.declared.phases.Cube.{Cube}
 use Rattle.bg_match.specs.declared.phases.Phase.{Phase}
-use Rattle.bg_match.specs.declared.phases.Phase.TheVariants.{Doubled}
+use Rattle.bg_match.specs.declared.phases.Phase.TheVariants.{Doubled, Over}
 use Rattle.bg_text.specs.Boards.TermsText.{terms_text}
 use Rattle.bg_table.specs.Pips.{pip_count}
 use Rattle.bg_table.specs.SeenPlayers.{name_text}
 
-abbrev pub crawford_words : Bool → List ℕ
-crawford_words true = codes ", Crawford game"
-crawford_words false = []
+-- the mark of a Crawford game in a match to so many points: the only game of a match to one point
+-- has none
+abbrev pub crawford_words : ℕ → Bool → List ℕ
+crawford_words points true = if points == 1 then [] else codes ", Crawford game"
+crawford_words points false = []
 
 -- as in "length 7, game 3, Crawford game"
 unfoldable pub game_line : State → List ℕ
-game_line s = terms_text s.terms ++ codes ", game " ++ decimal s.game ++ crawford_words s.crawford
+game_line s =
+    terms_text s.terms ++ codes ", game " ++ decimal s.game ++ crawford_words (match_length s.terms) s.crawford
 
--- as in "X (you) 3 of 7"
+-- the points that a match is played to, while it goes on
+unfoldable pub of_words : Phase → ℕ → List ℕ
+of_words (Over p) points = []
+of_words _ points = codes " of " ++ decimal points
+
+-- as in "X (you) 3 of 7", or "X (you) 8" where the match is over
 unfoldable pub score_words : State → Player → Player → List ℕ
 score_words s player reader =
-    name_text player reader ++ codes " " ++ decimal (score_of s player) ++ codes " of " ++ decimal (match_length s.terms)
+    name_text player reader ++ codes " " ++ decimal (score_of s player) ++ of_words s.phase (match_length s.terms)
 
 unfoldable pub score_line : State → Player → List ℕ
 score_line s reader =

@@ -1,14 +1,18 @@
 -- What a player did last.
-use Rattle.std.specs.Prelude.{◌≡◌, ◌⊎◌, ℕ, ◌+◌, ◌-◌, ◌<◌, ◌≤◌, Some, List, [], ◌++◌, length, take, codes}
+use Rattle.std.specs.Prelude.{◌≡◌, ◌≢◌, ◌⊎◌, ℕ, ◌+◌, ◌-◌, ◌<◌, ◌≤◌, Some, List, [], ◌++◌, length, take, codes}
 use Rattle.std.specs.Fmt.{decimal}
+use Rattle.bg_board.specs.FromTo.{FromTo}
+use Rattle.bg_board.specs.Position.{Position}
 use Rattle.bg_board.specs.declared.players.Player.{Player}
 use Rattle.bg_turns.specs.Dice.{first_pips, second_pips}
 use Rattle.bg_turns.specs.declared.throws.Dice.{Dice}
-use Rattle.bg_match.specs.Match.{Log, SeatAfter, at_number}
+use Rattle.bg_match.specs.Match.{Log, SeatAfter, StandsAt, at_number}
+use Rattle.bg_match.specs.State.{State}
 use Rattle.bg_match.specs.declared.entries.Entry.{Entry}
 use Rattle.bg_match.specs.declared.entries.Entry.TheVariants.{Rolled, Moved, Passed}
 use Rattle.bg_text.specs.Boards.BoardText.{line_text}
 use Rattle.bg_text.specs.Entries.EntryText.{entry_text, letter}
+use Rattle.bg_table.specs.TurnLists.{marked_steps}
 
 -- the entry of this number, from 1, is the player's
 abbrev pub IsMadeBy : Log → ℕ → Player → Type 0
@@ -61,19 +65,36 @@ thrown_words dice = decimal (first_pips dice) ++ codes " " ++ decimal (second_pi
 unfoldable pub not_moved_words : Player → Dice → List ℕ
 not_moved_words player dice = letter player ++ codes " rolled " ++ thrown_words dice ++ codes " and could not move"
 
--- the points of a move are in the numbers of who made it
-unfoldable pub counted_words : Player → Entry → List ℕ
-counted_words player (Moved turn) = codes " (as " ++ letter player ++ codes " counts)"
-counted_words player _ = []
+-- the steps that a player moved on a position, with marks behind those that hit. The points are in
+-- his own numbers: as in "O move 24-22* 24-18 (as O counts)"
+unfoldable pub move_words : Position → Player → List FromTo → List ℕ
+move_words b player turn =
+    letter player ++ codes " move" ++ marked_steps b player turn ++ codes " (as " ++ letter player ++ codes " counts)"
 
--- as in "O move 24-22 24-18 (as O counts)"
-abbrev pub entry_words : Player → Entry → List ℕ
-entry_words player e = entry_text (Some player) e ++ counted_words player e
+-- what a player did on a position
+abbrev pub entry_words : Position → Player → Entry → List ℕ
+entry_words b player (Moved turn) = move_words b player turn
+entry_words b player e = entry_text (Some player) e
+
+-- before the entry of this number the match stood so
+abbrev pub StandsBefore : Log → ℕ → State → Type 0
+StandsBefore log number s = StandsAt log.terms (take (number - 1) log.entries) s
 
 -- the words are those of the entry of this number, which the player made
 abbrev pub IsEntryOf : Log → Player → ℕ → List ℕ → Type 0
 IsEntryOf log player number words =
-    (e : Entry) × (at_number log.entries number ≡ Some e) × (words ≡ entry_words player e)
+    (e : Entry) × (s : State) × (at_number log.entries number ≡ Some e) × StandsBefore log number s
+    × (words ≡ entry_words s.board player e)
+
+-- the entry of this number was made in the game that is played now
+abbrev pub IsOfThisGame : Log → ℕ → Type 0
+IsOfThisGame log number =
+    (s t : State) × StandsBefore log number s × StandsAt log.terms log.entries t × (s.game ≡ t.game)
+
+-- it was made in a game that has ended
+abbrev pub IsOfEarlierGame : Log → ℕ → Type 0
+IsOfEarlierGame log number =
+    (s t : State) × StandsBefore log number s × StandsAt log.terms log.entries t × (s.game ≢ t.game)
 
 -- the words say what the player did by the entry of this number, or that he could not move
 abbrev pub TellsEntry : Log → Player → ℕ → List ℕ → Type 0
@@ -85,9 +106,10 @@ TellsEntry log player number words =
 abbrev pub last_line : List ℕ → List ℕ
 last_line words = codes "last: " ++ words
 
--- the text grows by the line of the player's last entry, if he has made one
+-- the text grows by the line of the player's last entry, if he has made one in this game
 abbrev pub AddsLastLine : Log → Player → List ℕ → List ℕ → Type 0
 AddsLastLine log player old new =
     (HasMadeNone log player × (new ≡ old))
-    ⊎ ((number : ℕ) × (words : List ℕ) × IsLastOf log player number × TellsEntry log player number words
-    × (new ≡ old ++ line_text (last_line words)))
+    ⊎ (((number : ℕ) × IsLastOf log player number × IsOfEarlierGame log number × (new ≡ old))
+    ⊎ ((number : ℕ) × (words : List ℕ) × IsLastOf log player number × IsOfThisGame log number
+    × TellsEntry log player number words × (new ≡ old ++ line_text (last_line words))))

@@ -23,7 +23,7 @@ NamesStep = (b : Position) (player : Player) (dice : Dice) (steps : List FromTo)
 -- after a game that a player won with so many points, the text says that he won these
 abbrev pub TellsWin : Type 0
 TellsWin = (s : State) (winner reader : Player) (points : ℕ) → 1 ≤ points
-    → result_words s (after_win s winner points) reader ≡ won_words (after_win s winner points) winner points reader
+    → result_words s (after_win s winner points) reader ≡ won_words s (after_win s winner points) winner points reader
 
 -- each text of a turn is shorter than a cell of their list. The cells of a line, without the blank
 -- at the end, have as many letters as the line at most, or there is one alone

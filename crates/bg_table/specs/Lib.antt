@@ -9,6 +9,8 @@ pub mod Offering
 pub mod Prompts
 pub mod Grown
 pub mod StepTexts
+pub mod DiceLeft
+pub mod MissingCheckers
 pub mod StepRefusals
 pub mod TurnRefusals
 pub mod Refusals

@@ -1,10 +1,12 @@
 -- Why an action of a player can't be made, and what he may do.
-use Rattle.std.specs.Prelude.{◌≡◌, ℕ, Option, Some, None, MatchOption, List, [], ◌++◌, codes}
+use Rattle.std.specs.Prelude.{◌≡◌, ◌==◌, ◌⊎◌, ℕ, Option, Some, None, MatchOption, List, [], ◌++◌, codes, if◌then◌else◌}
 use Rattle.std.specs.Fmt.{decimal}
 use Rattle.bg_board.specs.declared.players.Player.{Player}
 use Rattle.bg_board.specs.declared.players.Player.TheVariants.{X, O}
 use Rattle.bg_match.specs.Actor.{actor_of}
+use Rattle.bg_match.specs.Follows.{IsNoDouble, MayDouble}
 use Rattle.bg_match.specs.State.{State}
+use Rattle.bg_match.specs.Terms.{match_length}
 use Rattle.bg_match.specs.declared.actions.Action.{Action}
 use Rattle.bg_match.specs.declared.actions.Action.TheVariants as action
 use Rattle.bg_match.specs.declared.entries.EntryFault.{EntryFault}
@@ -19,12 +21,19 @@ use Rattle.bg_table.specs.TurnRefusals.{IsTurnRefusal}
 use Rattle.bg_table.specs.declared.offers.Offers.{Offers}
 use Rattle.bg_table.specs.declared.refusals.RefusedTurn.{RefusedTurn}
 
--- why a player can't double
-abbrev pub no_double_words : NoDouble → Player → List ℕ
-no_double_words no_double.Crawford reader = codes "nobody can double in the Crawford game\n"
-no_double_words no_double.NotOwner X = codes "the cube is O's, so you can't double\n"
-no_double_words no_double.NotOwner O = codes "the cube is X's, so you can't double\n"
-no_double_words no_double.AtCap reader = codes "the cube shows 128, so nobody can double\n"
+-- why nobody can double in a game that is played without the cube. That of a match to one point is
+-- no Crawford game to its players
+abbrev pub cubeless_words : ℕ → List ℕ
+cubeless_words points =
+    if points == 1 then codes "a match to one point is played without the cube\n"
+    else codes "nobody can double in the Crawford game\n"
+
+-- why a player can't double in a match to so many points
+abbrev pub no_double_words : ℕ → NoDouble → Player → List ℕ
+no_double_words points no_double.Crawford reader = cubeless_words points
+no_double_words points no_double.NotOwner X = codes "the cube is O's, so you can't double\n"
+no_double_words points no_double.NotOwner O = codes "the cube is X's, so you can't double\n"
+no_double_words points no_double.AtCap reader = codes "the cube shows 128, so nobody can double\n"
 
 -- why a phase doesn't allow an action
 abbrev pub phase_words : Phase → Action → List ℕ
@@ -41,15 +50,29 @@ phase_words (phase.ToMove p dice) action.Roll = codes "the dice are rolled: move
 phase_words (phase.ToMove p dice) action.Double = codes "you can double only before you roll\n"
 phase_words _ _ = codes "this can't be done now\n"
 
--- why an action can't be made, but for turns
-abbrev pub why_words : Phase → Player → Action → EntryFault → List ℕ
-why_words ph reader a fault.RecordFull = codes "the match has as many entries as it can have\n"
-why_words ph reader a fault.MatchOver = []
-why_words ph reader a fault.WrongPhase = phase_words ph a
-why_words ph reader a fault.EqualOpening = codes "equal dice open no game\n"
-why_words ph reader a (fault.Turn why) = codes "there are no dice for a turn\n"
-why_words ph reader a (fault.NoDouble why) = no_double_words why reader
-why_words ph reader a fault.Memory = codes "there is no memory for another entry\n"
+-- the line says why a double can't be made in this phase: what forbids it in the whole game comes
+-- first, and the phase alone is named where nothing else does
+abbrev pub IsDoubleLine : State → Player → List ℕ → Type 0
+IsDoubleLine s reader line =
+    ((why : NoDouble) × IsNoDouble why s reader × (line ≡ no_double_words (match_length s.terms) why reader))
+    ⊎ (MayDouble s reader × (line ≡ phase_words s.phase action.Double))
+
+-- the line says why an action can't be made in a phase. While a double is answered, that comes first
+abbrev pub IsPhaseLine : State → Phase → Player → Action → List ℕ → Type 0
+IsPhaseLine s (phase.Over p) reader a line = line ≡ phase_words (phase.Over p) a
+IsPhaseLine s (phase.Doubled p) reader a line = line ≡ phase_words (phase.Doubled p) a
+IsPhaseLine s ph reader action.Double line = IsDoubleLine s reader line
+IsPhaseLine s ph reader a line = line ≡ phase_words ph a
+
+-- the line says why an action can't be made, but for turns
+abbrev pub IsReasonLine : State → Player → Action → EntryFault → List ℕ → Type 0
+IsReasonLine s reader a fault.RecordFull line = line ≡ codes "the match has as many entries as it can have\n"
+IsReasonLine s reader a fault.MatchOver line = line ≡ []
+IsReasonLine s reader a fault.WrongPhase line = IsPhaseLine s s.phase reader a line
+IsReasonLine s reader a fault.EqualOpening line = line ≡ codes "equal dice open no game\n"
+IsReasonLine s reader a (fault.Turn why) line = line ≡ codes "there are no dice for a turn\n"
+IsReasonLine s reader a (fault.NoDouble why) line = line ≡ no_double_words (match_length s.terms) why reader
+IsReasonLine s reader a fault.Memory line = line ≡ codes "there is no memory for another entry\n"
 
 -- the turn that an action plays in a phase and that is refused
 abbrev pub refused_turn : Phase → Action → EntryFault → Option RefusedTurn
@@ -59,7 +82,7 @@ refused_turn _ _ _ = None
 
 -- the line says why an action can't be made: of a turn why it is refused
 abbrev pub IsWhy : State → Player → Action → EntryFault → List ℕ → Type 0
-IsWhy s reader a why line = MatchOption (refused_turn s.phase a why) (line ≡ why_words s.phase reader a why)
+IsWhy s reader a why line = MatchOption (refused_turn s.phase a why) (IsReasonLine s reader a why line)
     (λ refused. IsTurnRefusal s.board refused.player refused.dice refused.turn refused.fault line)
 
 -- the text says to a player why an action of his can't be made, and then whose turn it is and what

@@ -12,9 +12,10 @@ use Rattle.bg_turns.specs.declared.faults.TurnFault.{TurnFault}
 use Rattle.bg_turns.specs.declared.faults.TurnFault.TheVariants.{StepIllegal, MoreCanBePlayed, LargerMustBePlayed}
 use Rattle.bg_turns.specs.declared.throws.Dice.{Dice}
 use Rattle.bg_text.specs.Boards.BoardText.{line_text}
-use Rattle.bg_table.specs.StepRefusals.{AreLeft, IsRefusedAt, refusal_words}
+use Rattle.bg_table.specs.DiceLeft.{AreLeft}
+use Rattle.bg_table.specs.StepRefusals.{IsRefusedAt, refusal_words}
 use Rattle.bg_table.specs.StepTexts.{steps_text}
-use Rattle.bg_table.specs.declared.step_refusals.DiceLeft.{DiceLeft}
+use Rattle.bg_table.specs.declared.dice_left.DiceLeft.{DiceLeft}
 use Rattle.bg_table.specs.declared.step_refusals.StepRefusal.{StepRefusal}
 
 -- the legal turns, each once, the greatest first

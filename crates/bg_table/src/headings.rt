@@ -3,7 +3,8 @@ ghost use Rattle.std.specs.Prelude.{◌≡◌, ◌++◌, OnOk};
 ghost use Rattle.bg_match.specs.State.{score_of};
 ghost use Rattle.bg_text.specs.Boards.BoardText.{line_text};
 ghost use Rattle.bg_table.specs.Headings.{crawford_words as mark, cube_line, cube_words, doubled_words, game_line};
-ghost use Rattle.bg_table.specs.Headings.{offer_words, owner_words, pips_line, pips_words, score_line, score_words};
+ghost use Rattle.bg_table.specs.Headings.{of_words, offer_words, owner_words, pips_line, pips_words, score_line};
+ghost use Rattle.bg_table.specs.Headings.{score_words};
 
 use crate::pips::pip_count;
 use crate::seen_players::put_name;
@@ -20,15 +21,20 @@ pub(crate) fn put_game_line(out: &mut Vec<u8>, standing: &Standing) -> Result<()
     put_terms(out, standing.length(), standing.rules())?;
     put_text(out, ", game ")?;
     put_number(out, standing.game().into())?;
-    put_text(out, crawford_words(standing.crawford()))?;
+    put_text(out, crawford_words(standing.length(), standing.crawford()))?;
     put_text(out, "\n")
 }
 
-/// Returns the words for a Crawford game, which are empty for other games.
-fn crawford_words(crawford: bool) -> &'static str
-    ensures { result.now ≡ mark crawford }
+/// Returns the words for a Crawford game in a match of this length, which are empty for other
+/// games. The only game of a match to one point isn't called so.
+fn crawford_words(length: u8, crawford: bool) -> &'static str
+    ensures { result.now ≡ mark length crawford }
 {
-    if crawford { ", Crawford game" } else { "" }
+    if crawford && length != 1 {
+        ", Crawford game"
+    } else {
+        ""
+    }
 }
 
 /// Appends the line of the score, the reader's first.
@@ -47,7 +53,8 @@ pub(crate) fn put_score_line(
     put_text(out, "\n")
 }
 
-/// Appends a player's name and points, and the points that the match is played to.
+/// Appends a player's name and points and, while the match goes on, the points that it is played
+/// to.
 #[tactic(auto, unfolding(crate::specs::Headings::score_words))]
 fn put_score(
     out: &mut Vec<u8>,
@@ -60,8 +67,21 @@ fn put_score(
     put_name(out, player, reader)?;
     put_text(out, " ")?;
     put_number(out, score_for(standing, player).into())?;
-    put_text(out, " of ")?;
-    put_number(out, standing.length().into())
+    put_of(out, standing.phase(), standing.length())
+}
+
+/// Appends the points that a match is played to, while it goes on.
+#[tactic(auto, unfolding(crate::specs::Headings::of_words))]
+fn put_of(out: &mut Vec<u8>, phase: Phase, length: u8) -> Result<(), AllocError>
+    ensures { OnOk result (out.new.items ≡ out.old.items ++ of_words phase length) }
+{
+    match phase {
+        Phase::Over(_) => Ok(()),
+        _ => {
+            put_text(out, " of ")?;
+            put_number(out, length.into())
+        }
+    }
 }
 
 /// Returns the points of a player.

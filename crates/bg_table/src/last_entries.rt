@@ -1,20 +1,25 @@
 //! A player's last entry.
-ghost use Rattle.std.specs.Prelude.{◌≡◌, ◌≤◌, ◌++◌, ◌↔◌, Some, [], IsTrue, MatchOption, OnOk, length};
-ghost use Rattle.bg_match.specs.Match.{IsLegalRecord, at_number};
+ghost use Rattle.std.specs.Prelude.{◌≡◌, ◌≤◌, ◌++◌, ◌-◌, ◌↔◌, Some, [], IsTrue, MatchOption, OnOk, length, take};
+ghost use Rattle.bg_match.specs.Actor.{actor_of, seat_of};
+ghost use Rattle.bg_match.specs.Follows.{CanFollow};
+ghost use Rattle.bg_match.specs.Match.{IsLegalRecord, StandsAt, at_number};
 ghost use Rattle.bg_table.specs.Grown.{Adds};
-ghost use Rattle.bg_table.specs.LastEntries.{AddsLastLine, CouldMove, CouldNotMove, HasMadeNone, HasNoRoll, IsEntryOf};
-ghost use Rattle.bg_table.specs.LastEntries.{IsLastOf, IsLastRoll, IsMadeBy, IsNoRoll, IsRoll, TellsEntry};
-ghost use Rattle.bg_table.specs.LastEntries.{counted_words as note, thrown_words, not_moved_words};
+ghost use Rattle.bg_table.specs.LastEntries.{AddsLastLine, CouldMove, CouldNotMove, HasMadeNone, HasNoRoll, IsLastOf};
+ghost use Rattle.bg_table.specs.LastEntries.{IsLastRoll, IsMadeBy, IsNoRoll, IsRoll, TellsEntry, entry_words};
+ghost use Rattle.bg_table.specs.LastEntries.{move_words, not_moved_words, thrown_words};
+ghost use Rattle.bg_turns.specs.InOrder.{AreLegalSteps};
 
+use crate::earlier_standings::standing_before;
 use crate::step_refusals::put_die;
-use bg_board::Player;
-use bg_match::{Entry, Number, Record};
+use crate::turn_lists::put_marked;
+use bg_board::{Board, Player, Step};
+use bg_match::{Entry, Number, Record, Standing};
 use bg_text::{entry_text, letter, put_text};
 use bg_turns::Dice;
 use std::alloc::AllocError;
 
-/// Appends the line of the last entry that a player made, if there is one. Where the player could
-/// not move, the line says so in place of the roll, or of the move without a step.
+/// Appends the line of the last entry that a player made, if it is of the present game. Where the
+/// player could not move, the line says so in place of the roll, or of the move without a step.
 pub(crate) fn put_last(out: &mut Vec<u8>, log: &Record, player: Player) -> Result<(), AllocError>
     ensures { OnOk result (AddsLastLine log.now player out.old.items out.new.items) }
 {
@@ -54,7 +59,7 @@ fn is_seat(seat: Option<Player>, player: Player) -> bool
     seat == Some(player)
 }
 
-/// Appends the line of a player's last entry, which has this number.
+/// Appends the line of a player's last entry, which has this number, if it is of the present game.
 fn put_last_line(
     out: &mut Vec<u8>,
     log: &Record,
@@ -65,25 +70,35 @@ fn put_last_line(
     requires legal { IsLegalRecord log.now.terms log.now.entries }
     ensures { OnOk result (AddsLastLine log.now player out.old.items out.new.items) }
 {
+    let before = standing_before(log, number);
+    if before.game() != log.standing().game() {
+        return Ok(());
+    }
     put_text(out, "last: ")?;
-    put_told(out, log, player, number)?;
+    put_told(out, log, player, number, &before)?;
     put_text(out, "\n")
 }
 
-/// Appends what a player did by the entry of this number, or that the player could not move.
+/// Appends what a player did by the entry of this number, before which the match stood so, or that
+/// the player could not move.
 fn put_told(
     out: &mut Vec<u8>,
     log: &Record,
     player: Player,
     number: Number,
+    before: &Standing,
 ) -> Result<(), AllocError>
     requires made { IsMadeBy log.now number player }
     requires legal { IsLegalRecord log.now.terms log.now.entries }
+    requires stands { StandsAt log.now.terms (take (number - 1) log.now.entries) before.now }
     ensures { OnOk result (Adds (TellsEntry log.now player number) out.old.items out.new.items) }
 {
     match unmoved_dice(log, number) {
         Some(dice) => put_not_moved(out, player, dice),
-        None => put_entry(out, log, player, number),
+        None => {
+            let entry = log.entry(number).unwrap();
+            put_entry(out, before, player, entry)
+        }
     }
 }
 
@@ -167,33 +182,39 @@ fn put_thrown(out: &mut Vec<u8>, dice: Dice) -> Result<(), AllocError>
     put_die(out, dice.second)
 }
 
-/// Appends the entry of this number, which the player made.
+/// Appends the entry that a player made at this standing.
 fn put_entry(
     out: &mut Vec<u8>,
-    log: &Record,
+    before: &Standing,
     player: Player,
-    number: Number,
+    entry: &Entry,
 ) -> Result<(), AllocError>
-    requires made { IsMadeBy log.now number player }
-    requires legal { IsLegalRecord log.now.terms log.now.entries }
-    ensures { OnOk result (Adds (IsEntryOf log.now player number) out.old.items out.new.items) }
-{
-    let entry = log.entry(number).unwrap();
-    put_text(out, entry_text(Some(player), entry).as_str())?;
-    put_counted(out, player, entry)
-}
-
-/// Appends whose numbering the points of an entry have.
-#[tactic(auto, unfolding(crate::specs::LastEntries::counted_words))]
-fn put_counted(out: &mut Vec<u8>, player: Player, entry: &Entry) -> Result<(), AllocError>
-    ensures { OnOk result (out.new.items ≡ out.old.items ++ note player entry.now) }
+    requires acts { seat_of (actor_of before.now) ≡ Some player }
+    requires follows { CanFollow before.now entry.now }
+    ensures { OnOk result (out.new.items ≡ out.old.items ++ entry_words before.now.board player entry.now) }
 {
     match entry {
-        Entry::Moved(_) => {
-            put_text(out, " (as ")?;
-            put_text(out, letter(player))?;
-            put_text(out, " counts)")
-        }
-        _ => Ok(()),
+        Entry::Moved(turn) => put_move(out, before.board(), player, turn.steps()),
+        _ => put_text(out, entry_text(Some(player), entry).as_str()),
     }
+}
+
+/// Appends the steps that a player moved on this board, with a mark behind those that hit, and whose
+/// numbering their points have.
+#[tactic(auto, unfolding(crate::specs::LastEntries::move_words))]
+fn put_move(
+    out: &mut Vec<u8>,
+    board: Board,
+    player: Player,
+    steps: &[Step],
+) -> Result<(), AllocError>
+    requires { AreLegalSteps board player steps.now }
+    ensures { OnOk result (out.new.items ≡ out.old.items ++ move_words board player steps.now) }
+{
+    put_text(out, letter(player))?;
+    put_text(out, " move")?;
+    put_marked(out, board, player, steps)?;
+    put_text(out, " (as ")?;
+    put_text(out, letter(player))?;
+    put_text(out, " counts)")
 }

@@ -17,13 +17,16 @@
 //! ```
 #![tactic(auto)]
 
+mod dice_left;
 mod distinct_turns;
 mod drawings;
 mod drawn_boards;
+mod earlier_standings;
 mod headings;
 mod last_entries;
 mod laws;
 mod listed_boards;
+mod missing_checkers;
 mod offers;
 mod pips;
 mod prompts;

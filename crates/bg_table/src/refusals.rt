@@ -1,15 +1,16 @@
 //! The reasons why an action of a player can't be made, and what the player may do.
-ghost use Rattle.std.specs.Prelude.{◌≡◌, ◌++◌, IfOk, OnOk};
+ghost use Rattle.std.specs.Prelude.{◌≡◌, ◌++◌, IfOk, MatchOption, OnOk};
+ghost use Rattle.bg_match.specs.Follows.{IsNoDouble, MayDouble};
 ghost use Rattle.bg_table.specs.Grown.{Adds};
-ghost use Rattle.bg_table.specs.Refusals.{IsRefusal, IsWhy, no_double_words as words_without_double};
-ghost use Rattle.bg_table.specs.Refusals.{phase_words as words_of_phase, refused_turn as turn_of, waiting_words};
-ghost use Rattle.bg_table.specs.Refusals.{why_words as words_of_fault};
+ghost use Rattle.bg_table.specs.Refusals.{IsDoubleLine, IsPhaseLine, IsReasonLine, IsRefusal, IsWhy, cubeless_words};
+ghost use Rattle.bg_table.specs.Refusals.{no_double_words as words_without_double, phase_words as words_of_phase};
+ghost use Rattle.bg_table.specs.Refusals.{refused_turn as turn_of, waiting_words};
 
 use crate::offers::offered;
 use crate::prompts::put_prompt;
 use crate::turn_refusals::put_turn_refusal;
 use bg_board::Player;
-use bg_match::{Action, EntryFault, NoDouble, Number, Phase, Standing};
+use bg_match::{Action, EntryFault, GREATEST_CUBE, NoDouble, Number, Phase, Standing};
 use bg_text::{put_number, put_text};
 use bg_turns::{Dice, Turn, TurnFault};
 use std::alloc::{AllocError, Global};
@@ -17,8 +18,9 @@ use std::alloc::{AllocError, Global};
 /// Returns the lines that tell a player why an action of theirs can't be made at this standing.
 /// Then they say what the player may do instead, as [`prompt_text`](crate::prompt_text) has it. The
 /// fault is the one of the action's entry; for a turn the text is that of
-/// [`turn_refusal_text`](crate::turn_refusal_text). Where the match is over, the text says that
-/// alone.
+/// [`turn_refusal_text`](crate::turn_refusal_text). A double that comes too late is refused for what
+/// forbids it in the whole game, if anything does: there is no cube, or the player can't turn it.
+/// Where the match is over, the text says that alone.
 ///
 /// # Errors
 /// AllocError where there is no memory for it, or for the list of legal turns.
@@ -73,8 +75,7 @@ fn put_why(
 ) -> Result<(), AllocError>
     ensures { OnOk result (Adds (IsWhy standing.now reader action.now fault) out.old.items out.new.items) }
 {
-    let phase = standing.phase();
-    match refused_turn(phase, action, fault) {
+    match refused_turn(standing.phase(), action, fault) {
         Some(
             RefusedTurn {
                 player,
@@ -83,7 +84,7 @@ fn put_why(
                 fault,
             },
         ) => put_turn_refusal(alloc, out, &standing.board(), player, dice, &turn, fault),
-        None => put_text(out, why_words(phase, reader, action, fault)),
+        None => put_text(out, why_words(standing, reader, action, fault)),
     }
 }
 
@@ -115,29 +116,84 @@ fn refused_turn(phase: Phase, action: &Action, fault: EntryFault) -> Option<Refu
 }
 
 /// Returns the words for why an action that is no turn can't be made.
-fn why_words(phase: Phase, reader: Player, action: &Action, fault: EntryFault) -> &'static str
-    ensures { result.now ≡ words_of_fault phase reader action.now fault }
+fn why_words(
+    standing: &Standing,
+    reader: Player,
+    action: &Action,
+    fault: EntryFault,
+) -> &'static str
+    ensures { IsReasonLine standing.now reader action.now fault result.now }
 {
     match fault {
         EntryFault::RecordFull => "the match has as many entries as it can have\n",
         EntryFault::MatchOver => "",
-        EntryFault::WrongPhase => phase_words(phase, action),
+        EntryFault::WrongPhase => wrong_phase_words(standing, reader, action),
         EntryFault::EqualOpening => "equal dice open no game\n",
         EntryFault::Turn(_) => "there are no dice for a turn\n",
-        EntryFault::NoDouble(why) => no_double_words(why, reader),
+        EntryFault::NoDouble(why) => no_double_words(standing.length(), why, reader),
         EntryFault::Memory => "there is no memory for another entry\n",
     }
 }
 
-/// Returns the words for why a player can't double.
-fn no_double_words(why: NoDouble, reader: Player) -> &'static str
-    ensures { result.now ≡ words_without_double why reader }
+/// Returns the words for why a player can't double in a match of this length.
+fn no_double_words(length: u8, why: NoDouble, reader: Player) -> &'static str
+    ensures { result.now ≡ words_without_double length why reader }
 {
     match (why, reader) {
-        (NoDouble::Crawford, _) => "nobody can double in the Crawford game\n",
+        (NoDouble::Crawford, _) => without_cube(length),
         (NoDouble::NotOwner, Player::X) => "the cube is O's, so you can't double\n",
         (NoDouble::NotOwner, Player::O) => "the cube is X's, so you can't double\n",
         (NoDouble::AtCap, _) => "the cube shows 128, so nobody can double\n",
+    }
+}
+
+/// Returns the words for why nobody can double in a game of a match of this length that is played
+/// without the cube.
+fn without_cube(length: u8) -> &'static str
+    ensures { result.now ≡ cubeless_words length }
+{
+    if length == 1 {
+        "a match to one point is played without the cube\n"
+    } else {
+        "nobody can double in the Crawford game\n"
+    }
+}
+
+/// Returns the words for why an action can't be made in the phase of this standing.
+fn wrong_phase_words(standing: &Standing, reader: Player, action: &Action) -> &'static str
+    ensures { IsPhaseLine standing.now standing.now.phase reader action.now result.now }
+{
+    match (standing.phase(), action) {
+        (Phase::Over(_) | Phase::Doubled(_), _) => phase_words(standing.phase(), action),
+        (_, Action::Double) => late_double_words(standing, reader),
+        (_, _) => phase_words(standing.phase(), action),
+    }
+}
+
+/// Returns the words for why a double can't be made in this phase: what forbids it in the whole
+/// game, or else the phase.
+fn late_double_words(standing: &Standing, reader: Player) -> &'static str
+    ensures { IsDoubleLine standing.now reader result.now }
+{
+    match no_double(standing, reader) {
+        Some(why) => no_double_words(standing.length(), why, reader),
+        None => phase_words(standing.phase(), &Action::Double),
+    }
+}
+
+/// Returns why a player may not double in this game as the cube stands, whatever the phase. Returns
+/// `None` where they may.
+fn no_double(standing: &Standing, player: Player) -> Option<NoDouble>
+    ensures { MatchOption result (MayDouble standing.now player) (λ why. IsNoDouble why standing.now player) }
+{
+    if standing.crawford() {
+        Some(NoDouble::Crawford)
+    } else if standing.cube().owner == Some(player.opponent()) {
+        Some(NoDouble::NotOwner)
+    } else if standing.cube().value == GREATEST_CUBE {
+        Some(NoDouble::AtCap)
+    } else {
+        None
     }
 }
 

@@ -1,7 +1,8 @@
 //! The result of a game.
 ghost use Rattle.std.specs.Prelude.{◌≡◌, ◌++◌, IfOk, OnOk};
-ghost use Rattle.bg_table.specs.Results.{gained as points_gained, points_words, result_words, scores_words, won_words};
-ghost use Rattle.bg_table.specs.Results.{winner_words, worth_words};
+ghost use Rattle.bg_table.specs.Results.{gained as points_gained, game_words, last_level_words, level_words};
+ghost use Rattle.bg_table.specs.Results.{match_words, named_words, points_words, result_words, scores_words};
+ghost use Rattle.bg_table.specs.Results.{winner_words, won_words, worth_words};
 
 use crate::headings::score_for;
 use bg_board::Player;
@@ -11,8 +12,9 @@ use std::alloc::{AllocError, Global};
 
 /// Returns the line that tells a player the result of a game, from the standings of the match
 /// before and after its last entry. It gives the winner, the number of points won, and the score,
-/// the winner's first. For example `you win 2 points: 3 to 1`, or `X wins the match 5 to 3`. It is
-/// empty where no score has grown.
+/// the winner's first. For example `you win 2 points: 3 to 1`, or `X wins the match, 5-3`. A gammon
+/// or a backgammon that ends the match is named, as in `X wins a gammon, 2 points, and the match,
+/// 2-1`. It is empty where no score has grown.
 ///
 /// # Errors
 /// AllocError where there is no memory for it.
@@ -42,9 +44,9 @@ fn put_result(
     let of_x = gained(before, after, Player::X);
     let of_o = gained(before, after, Player::O);
     if of_x > 0 {
-        put_won(out, after, Player::X, of_x, reader)
+        put_won(out, before, after, Player::X, of_x, reader)
     } else if of_o > 0 {
-        put_won(out, after, Player::O, of_o, reader)
+        put_won(out, before, after, Player::O, of_o, reader)
     } else {
         Ok(())
     }
@@ -61,16 +63,16 @@ fn gained(before: &Standing, after: &Standing, player: Player) -> u16
 #[tactic(auto, unfolding(crate::specs::Results::won_words))]
 fn put_won(
     out: &mut Vec<u8>,
+    before: &Standing,
     after: &Standing,
     winner: Player,
     points: u16,
     reader: Player,
 ) -> Result<(), AllocError>
-    ensures { OnOk result (out.new.items ≡ out.old.items ++ won_words after.now winner points reader) }
+    ensures { OnOk result (out.new.items ≡ out.old.items ++ won_words before.now after.now winner points reader) }
 {
     put_winner(out, winner, reader)?;
-    put_worth(out, after.phase(), points)?;
-    put_scores(out, after, winner)?;
+    put_worth(out, before, after, winner, points)?;
     put_text(out, "\n")
 }
 
@@ -88,14 +90,90 @@ fn put_winner(out: &mut Vec<u8>, winner: Player, reader: Player) -> Result<(), A
     }
 }
 
-/// Appends what is won.
-fn put_worth(out: &mut Vec<u8>, phase: Phase, points: u16) -> Result<(), AllocError>
-    ensures { OnOk result (out.new.items ≡ out.old.items ++ worth_words phase points) }
+/// Appends what is won, and the score.
+fn put_worth(
+    out: &mut Vec<u8>,
+    before: &Standing,
+    after: &Standing,
+    winner: Player,
+    points: u16,
+) -> Result<(), AllocError>
+    ensures { OnOk result (out.new.items ≡ out.old.items
+        ++ worth_words after.now.phase before.now after.now winner points) }
 {
-    match phase {
-        Phase::Over(_) => put_text(out, "the match "),
-        _ => put_points(out, points),
+    match after.phase() {
+        Phase::Over(_) => put_match(out, before, after, winner, points),
+        _ => put_game(out, after, winner, points),
     }
+}
+
+/// Appends the points of a game after which the match goes on, and the score.
+#[tactic(auto, unfolding(crate::specs::Results::game_words))]
+fn put_game(
+    out: &mut Vec<u8>,
+    after: &Standing,
+    winner: Player,
+    points: u16,
+) -> Result<(), AllocError>
+    ensures { OnOk result (out.new.items ≡ out.old.items ++ game_words after.now winner points) }
+{
+    put_points(out, points)?;
+    put_scores(out, after, winner, " to ")
+}
+
+/// Appends that the match is won, and its score, behind the level of its last game.
+#[tactic(auto, unfolding(crate::specs::Results::match_words))]
+fn put_match(
+    out: &mut Vec<u8>,
+    before: &Standing,
+    after: &Standing,
+    winner: Player,
+    points: u16,
+) -> Result<(), AllocError>
+    ensures { OnOk result (out.new.items ≡ out.old.items ++ match_words before.now after.now winner points) }
+{
+    put_last_level(out, before, after, points)?;
+    put_text(out, "the match, ")?;
+    put_scores(out, after, winner, "-")
+}
+
+/// Appends the level of the game that ended the match, where both standings are in it.
+fn put_last_level(
+    out: &mut Vec<u8>,
+    before: &Standing,
+    after: &Standing,
+    points: u16,
+) -> Result<(), AllocError>
+    ensures { OnOk result (out.new.items ≡ out.old.items ++ last_level_words before.now after.now points) }
+{
+    if before.game() == after.game() {
+        put_level(out, after.cube().value, points)
+    } else {
+        Ok(())
+    }
+}
+
+/// Appends the level of a game with this cube and these points, unless it is a normal one.
+fn put_level(out: &mut Vec<u8>, cube: u8, points: u16) -> Result<(), AllocError>
+    ensures { OnOk result (out.new.items ≡ out.old.items ++ level_words cube points) }
+{
+    if points == 2 * u16::from(cube) {
+        put_named(out, "a gammon, ", points)
+    } else if points == 3 * u16::from(cube) {
+        put_named(out, "a backgammon, ", points)
+    } else {
+        Ok(())
+    }
+}
+
+/// Appends a level and the points that it counts.
+#[tactic(auto, unfolding(crate::specs::Results::named_words))]
+fn put_named(out: &mut Vec<u8>, level: &str, points: u16) -> Result<(), AllocError>
+    ensures { OnOk result (out.new.items ≡ out.old.items ++ named_words level.now points) }
+{
+    put_text(out, level)?;
+    put_number(out, points.into())?;
+    put_text(out, " points, and ")
 }
 
 /// Appends a number of points.
@@ -110,12 +188,17 @@ fn put_points(out: &mut Vec<u8>, points: u16) -> Result<(), AllocError>
     put_text(out, " points: ")
 }
 
-/// Appends the score, the winner's first.
+/// Appends the score, the winner's first, with a text between the numbers.
 #[tactic(auto, unfolding(crate::specs::Results::scores_words))]
-fn put_scores(out: &mut Vec<u8>, after: &Standing, winner: Player) -> Result<(), AllocError>
-    ensures { OnOk result (out.new.items ≡ out.old.items ++ scores_words after.now winner) }
+fn put_scores(
+    out: &mut Vec<u8>,
+    after: &Standing,
+    winner: Player,
+    between: &str,
+) -> Result<(), AllocError>
+    ensures { OnOk result (out.new.items ≡ out.old.items ++ scores_words after.now winner between.now) }
 {
     put_number(out, score_for(after, winner).into())?;
-    put_text(out, " to ")?;
+    put_text(out, between)?;
     put_number(out, score_for(after, winner.opponent()).into())
 }

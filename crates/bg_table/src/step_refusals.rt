@@ -1,14 +1,16 @@
 //! The reasons why a step can't be played.
-ghost use Rattle.std.specs.Prelude.{◌≡◌, ◌≤◌, ◌↔◌, ◌++◌, IsTrue, OnOk};
+ghost use Rattle.std.specs.Prelude.{◌≡◌, ◌↔◌, ◌++◌, IsTrue, OnOk};
 ghost use Rattle.std.specs.Fmt.{decimal};
 ghost use Rattle.bg_board.specs.Die.{pips};
 ghost use Rattle.bg_board.specs.Step.{Lands};
-ghost use Rattle.bg_table.specs.StepRefusals.{AreLeft, IsFaultOf, IsReason, IsRefusedAt, dice_words, held_words};
-ghost use Rattle.bg_table.specs.StepRefusals.{further_words, judging_pips, missing_words, other_pips, place_words};
-ghost use Rattle.bg_table.specs.StepRefusals.{reason_words, refusal_words, refused_words};
+ghost use Rattle.bg_table.specs.DiceLeft.{judging_pips};
+ghost use Rattle.bg_table.specs.StepRefusals.{IsFaultOf, IsReason, IsRefusedAt, dice_words, held_words, reason_words};
+ghost use Rattle.bg_table.specs.StepRefusals.{refusal_words, refused_words};
 
+use crate::dice_left::{DiceLeft, judging_die};
+use crate::missing_checkers::put_missing;
 use crate::step_texts::put_step;
-use bg_board::{BAR, Board, Die, Player, Step, StepFault};
+use bg_board::{Board, Die, Player, Step, StepFault};
 use bg_text::{letter, put_number, put_text};
 use bg_turns::Dice;
 use std::alloc::AllocError;
@@ -17,46 +19,10 @@ use std::alloc::AllocError;
 #[derive(Clone, Copy)]
 pub(crate) struct StepRefusal {
     pub(crate) step: Step,
+    /// The board on which it is tried.
+    pub(crate) tried: Board,
     /// The fault by the die that judges the step; `None` where no die is left for it.
     pub(crate) fault: Option<StepFault>,
-}
-
-/// The dice that are left when steps of a turn have been played.
-#[derive(Clone, Copy)]
-pub(crate) enum DiceLeft {
-    /// Both dice. Of equal dice, one is left for each step of a turn.
-    Both,
-    /// One of two dice.
-    One(Die),
-    /// No die.
-    Neither,
-}
-
-/// Returns the dice that are left when so many of the steps have been played.
-pub(crate) fn dice_left(dice: Dice, steps: &[Step], playable: u8) -> DiceLeft
-    ensures { AreLeft dice steps.now playable result }
-{
-    match steps.split_first() {
-        Some((first, _)) if playable > 0 && !dice.is_double() => {
-            if playable == 1 {
-                DiceLeft::One(other_die(*first, dice))
-            } else {
-                DiceLeft::Neither
-            }
-        }
-        _ => DiceLeft::Both,
-    }
-}
-
-/// Returns the die that is left behind a step, which takes the one that judges it.
-fn other_die(step: Step, dice: Dice) -> Die
-    ensures { pips result ≡ other_pips step dice }
-{
-    if judging_die(step, dice).pips() == dice.first.pips() {
-        dice.second
-    } else {
-        dice.first
-    }
 }
 
 /// Returns the step that is refused, where `playable` of the steps can be played and no more, and
@@ -75,12 +41,14 @@ pub(crate) fn refused_step(
     if playable == 0 {
         return Some(StepRefusal {
             step: *step,
+            tried: board,
             fault: reason(&board, player, dice, left, *step),
         });
     }
     match board.play_step(player, *step, judging_die(*step, dice)) {
         Err(fault) => Some(StepRefusal {
             step: *step,
+            tried: board,
             fault: Some(fault),
         }),
         Ok(after) => refused_step(after, player, dice, left, rest, playable - 1),
@@ -139,20 +107,6 @@ fn fault_of(board: &Board, player: Player, step: Step, die: Die) -> Option<StepF
     board.play_step(player, step, die).err()
 }
 
-/// Returns the die that judges a step: the one that shows its pips, else the larger one.
-fn judging_die(step: Step, dice: Dice) -> Die
-    ensures { pips result ≡ judging_pips step dice }
-{
-    let wanted = step.from() - step.to();
-    if dice.first.pips() == wanted {
-        dice.first
-    } else if dice.second.pips() == wanted {
-        dice.second
-    } else {
-        dice.larger()
-    }
-}
-
 /// Appends the sentence that refuses a step of a turn on this board, or a turn that has no such step.
 #[tactic(auto, unfolding(crate::specs::StepRefusals::refusal_words))]
 pub(crate) fn put_step_refusal(
@@ -183,7 +137,7 @@ fn put_refused(
 {
     put_step(out, refusal.step)?;
     put_text(out, " can't be played: ")?;
-    put_reason(out, board, player, dice, refusal.step, refusal.fault)?;
+    put_reason(out, board, player, dice, refusal)?;
     Ok(())
 }
 
@@ -193,60 +147,24 @@ fn put_reason(
     board: &Board,
     player: Player,
     dice: Dice,
-    step: Step,
-    fault: Option<StepFault>,
+    refusal: StepRefusal,
 ) -> Result<(), AllocError>
-    ensures { OnOk result (out.new.items ≡ out.old.items ++ reason_words board.now player dice step fault) }
+    ensures { OnOk result (out.new.items ≡ out.old.items
+        ++ reason_words board.now player dice refusal refusal.fault) }
 {
-    match fault {
-        Some(StepFault::NoChecker) => put_missing(out, board, player, step.from()),
+    match refusal.fault {
+        Some(StepFault::NoChecker) => {
+            put_missing(out, board, &refusal.tried, player, refusal.step.from())
+        }
         Some(StepFault::BarFirst) => put_text(out, "enter your checker from the bar first"),
         Some(StepFault::WrongLanding) => put_dice(out, dice),
-        Some(StepFault::Blocked) => put_held(out, player, step.to()),
+        Some(StepFault::Blocked) => put_held(out, player, refusal.step.to()),
         Some(StepFault::NotAllHome) => put_text(out, "not all your checkers are home"),
         Some(StepFault::HigherChecker) => {
             put_text(out, "a checker on a higher point must be moved first")
         }
         None => put_text(out, "no die is left for it"),
     }
-}
-
-/// Appends that the player has no checker on one of their points, or no further one where a checker
-/// stood there before the turn.
-#[tactic(auto, unfolding(crate::specs::StepRefusals::missing_words))]
-fn put_missing(
-    out: &mut Vec<u8>,
-    board: &Board,
-    player: Player,
-    point: u8,
-) -> Result<(), AllocError>
-    requires { point ≤ 25 }
-    ensures { OnOk result (out.new.items ≡ out.old.items ++ missing_words board.now player point) }
-{
-    put_text(out, "you have no ")?;
-    put_text(out, further(board.count(player, point)))?;
-    put_text(out, "checker on ")?;
-    put_place(out, point)?;
-    Ok(())
-}
-
-/// Returns the word for another checker, where so many were there before.
-fn further(before: u8) -> &'static str
-    ensures { result.now ≡ further_words before }
-{
-    if before == 0 { "" } else { "further " }
-}
-
-/// Appends a place of checkers: the bar, or a point.
-#[tactic(auto, unfolding(crate::specs::StepRefusals::place_words))]
-fn put_place(out: &mut Vec<u8>, point: u8) -> Result<(), AllocError>
-    ensures { OnOk result (out.new.items ≡ out.old.items ++ place_words point) }
-{
-    if point == BAR {
-        return put_text(out, "the bar");
-    }
-    put_text(out, "point ")?;
-    put_number(out, point.into())
 }
 
 /// Appends what the dice show.

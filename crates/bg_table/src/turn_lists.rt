@@ -203,7 +203,7 @@ fn put_blanks(out: &mut Vec<u8>, count: usize) -> Result<(), AllocError>
 
 /// Appends steps that can be played, each behind a blank, with a mark behind those that hit.
 #[tactic(auto, unfolding(crate::specs::TurnLists::marked_steps))]
-fn put_marked(
+pub(crate) fn put_marked(
     out: &mut Vec<u8>,
     board: Board,
     player: Player,

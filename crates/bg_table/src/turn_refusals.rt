@@ -6,7 +6,8 @@ ghost use Rattle.bg_table.specs.TurnRefusals.{IsLargerLine, IsMoreLine, IsStepLi
 ghost use Rattle.bg_table.specs.TurnRefusals.{example_words, larger_words, more_words, must_play_larger_words};
 ghost use Rattle.bg_table.specs.TurnRefusals.{must_play_words, of_four_words};
 
-use crate::step_refusals::{dice_left, put_die, put_step_refusal, refused_step};
+use crate::dice_left::dice_left;
+use crate::step_refusals::{put_die, put_step_refusal, refused_step};
 use crate::step_texts::put_steps;
 use bg_board::{Board, Die, Player, Step};
 use bg_text::{put_number, put_text};
@@ -19,7 +20,9 @@ use std::alloc::{AllocError, Global};
 /// - `StepIllegal`: which step can't be played, and why, as in
 ///   `24-18 can't be played: point 18 is held by O`. The step is judged by a die that those before
 ///   it left: the one that shows its pips, else the larger one. Where none of these leads where it
-///   ends, but a die that was played does, the reason is `no die is left for it`.
+///   ends, but a die that was played does, the reason is `no die is left for it`. Where the player
+///   has no checker and the other one has, the reason is `point 12 has checkers of O, none of
+///   yours`.
 /// - `MoreCanBePlayed`, `LargerMustBePlayed`: what must be played, with the greatest legal turn, as
 ///   in `you must play both dice: 24-18 13-11 can be played`.
 ///

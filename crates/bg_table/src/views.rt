@@ -1,7 +1,7 @@
 //! A player's view of a match.
 ghost use Rattle.std.specs.Prelude.{◌≡◌, ◌++◌, IfOk, OnOk};
 ghost use Rattle.bg_text.specs.Boards.BoardText.{line_text, phase_line};
-ghost use Rattle.bg_table.specs.Views.{IsSeatView, heading_text, table_text};
+ghost use Rattle.bg_table.specs.Views.{IsSeatView, cube_part, heading_text, table_text};
 
 use crate::drawings::Drawing;
 use crate::headings::{put_cube_line, put_game_line, put_pips_line, put_score_line};
@@ -12,8 +12,8 @@ use bg_text::{put_phase, put_text};
 use std::alloc::{AllocError, Global};
 
 /// Returns a player's view of a match: the match and the game, the score, and the board from the
-/// player's side and in their own numbering, in this drawing. Then both pip counts, the cube, what
-/// the other player did last, and what happens next.
+/// player's side and in their own numbering, in this drawing. Then both pip counts, the cube unless
+/// the match is to one point, what the other player did last in this game, and what happens next.
 ///
 /// # Errors
 /// AllocError where there is no memory for it.
@@ -56,6 +56,16 @@ fn put_table(
     let board = standing.board();
     drawing.put_board(out, &board, reader)?;
     put_pips_line(out, &board, reader)?;
+    put_cube_part(out, standing, reader)
+}
+
+/// Appends the line of the cube, unless the match is to one point.
+fn put_cube_part(out: &mut Vec<u8>, standing: &Standing, reader: Player) -> Result<(), AllocError>
+    ensures { OnOk result (out.new.items ≡ out.old.items ++ cube_part standing.now reader) }
+{
+    if standing.length() == 1 {
+        return Ok(());
+    }
     put_cube_line(out, standing, reader)
 }
 

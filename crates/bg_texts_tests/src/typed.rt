@@ -1,6 +1,7 @@
 //! Turns as people type them. The expected turns are worked out by hand, from where things stand on
 //! a board.
 mod growths;
+mod marks;
 mod refusals;
 mod turns;
 mod uses;

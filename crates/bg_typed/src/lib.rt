@@ -16,6 +16,7 @@
 
 mod faults;
 mod laws;
+mod marks;
 mod meanings;
 mod reading;
 mod spelling;
@@ -25,4 +26,5 @@ pub use faults::TypedFault;
 pub use laws::{
     printed_turns_mean_themselves, typed_faults_differ, typed_turns_are_legal, typed_turns_mean_one,
 };
+pub use marks::fits_marks;
 pub use reading::{read_turn, typed_steps};

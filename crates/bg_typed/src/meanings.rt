@@ -10,7 +10,7 @@ use bg_turns::{Dice, Turn, judge_turn, legal_turns};
 use std::alloc::Global;
 
 /// Returns whether a leg marks a hit.
-fn has_marks(legs: &[Leg]) -> bool
+pub(crate) fn has_marks(legs: &[Leg]) -> bool
     ensures { result ≡ is_marked legs.now }
 {
     legs.iter().any(|leg| leg.hits)

@@ -72,7 +72,7 @@ pub fn typed_steps(alloc: Global, typed: &[u8]) -> Result<Turn, TypedFault>
 }
 
 /// Reads the legs of a typed movement, of which there are at most four.
-fn typed_legs(alloc: Global, typed: &[u8]) -> Result<Legs, TypedFault>
+pub(crate) fn typed_legs(alloc: Global, typed: &[u8]) -> Result<Legs, TypedFault>
     ensures told { IfOk result (λ legs. TellsTyped typed.now legs.items) }
     ensures fault { IfErr result (IsStepsFault typed.now) }
 {

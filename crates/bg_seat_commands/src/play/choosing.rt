@@ -5,7 +5,7 @@ use bg_console::allocated;
 use bg_match::Action;
 use bg_party::ChooseFault;
 use bg_reports::Ending;
-use bg_table::refusal_text;
+use bg_table::{offered, refusal_text};
 use bg_world::{Outcome, outcome_text};
 use std::fs::File;
 use std::net::Net;
@@ -27,6 +27,16 @@ where
     /// Returns whether no choice waits for the referee.
     pub(super) fn claims_nothing(&self) -> bool {
         self.seat.process.open_claim().is_none()
+    }
+
+    /// Returns whether the player may offer to resign now, and no choice waits for the referee.
+    pub(super) fn may_resign(&self) -> bool {
+        match self.seat.process.held() {
+            Some(record) => {
+                self.claims_nothing() && offered(&record.standing(), self.player).resign
+            }
+            None => false,
+        }
     }
 
     /// Claims an action, or prints why it can't be claimed.

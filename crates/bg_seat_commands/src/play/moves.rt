@@ -2,8 +2,10 @@
 
 use crate::play::Table;
 use crate::play::single_dice::in_single_dice;
+use crate::play::slips::slip_text;
 use crate::play::turn_words::{
     adds_nothing, forced, must_play_more, only_way, so_far, together, turn_beyond, which_of,
+    without_move,
 };
 use bg_board::Board;
 use bg_console::{allocated, no_memory};
@@ -11,7 +13,7 @@ use bg_match::{Action, Phase};
 use bg_reports::Ending;
 use bg_table::turn_refusal_text;
 use bg_turns::{Dice, Turn, TurnFault, judge_turn};
-use bg_typed::{TypedFault, read_turn, typed_steps};
+use bg_typed::{TypedFault, fits_marks, read_turn, typed_steps};
 use std::fs::File;
 use std::net::Net;
 use std::rt::Files;
@@ -27,12 +29,6 @@ const WRONG_HITS: &str =
     "this turn doesn't hit exactly where you marked it with `*`: leave the marks out, or mark all hits";
 
 const SEVERAL_TURNS: &[u8] = b"several turns are legal: `legal` lists them";
-
-/// The messages to a player who takes back what was typed of a turn, and to one who typed nothing
-/// of it.
-const TAKEN_BACK: &[u8] = b"what you typed of this turn is taken back";
-
-const NOTHING_TYPED: &[u8] = b"nothing to undo: a turn that was sent can't be taken back";
 
 impl<'a, R> Table<'a, R>
 where
@@ -64,6 +60,7 @@ where
                 Some(turn) => self.choose(Action::Move(turn)),
                 None => self.screen.say(SEVERAL_TURNS),
             },
+            Err(TypedFault::NotAMovement) => self.tell_slip(line),
             Err(fault) => self.tell_fault(&fault),
         }
     }
@@ -98,7 +95,17 @@ where
     fn refuse_move(&mut self, line: &[u8]) -> Result<(), Ending> {
         match typed_steps(self.rt.alloc(), line) {
             Ok(turn) => self.choose(Action::Move(turn)),
+            Err(TypedFault::NotAMovement) => self.tell_slip(line),
             Err(fault) => self.tell_fault(&fault),
+        }
+    }
+
+    /// Prints why a line is no movement: its likely slip, if it has one.
+    fn tell_slip(&self, line: &[u8]) -> Result<(), Ending> {
+        let slip = slip_text(self.rt.alloc(), without_move(line));
+        match allocated(self.rt, slip)? {
+            Some(text) => self.screen.say(&text),
+            None => self.tell_fault(&TypedFault::NotAMovement),
         }
     }
 
@@ -129,8 +136,8 @@ where
         self.tell_typed()
     }
 
-    /// Keeps what was typed of a turn, where a legal turn begins with its steps. Otherwise prints
-    /// why none does.
+    /// Keeps what was typed of a turn, where a legal turn begins with its steps and they hit where
+    /// hits are marked, if any are. Otherwise prints why it is refused.
     fn go_on(&mut self, typed: Vec<u8>, board: &Board, dice: Dice) -> Result<(), Ending> {
         let rt = self.rt;
         let turn = match typed_steps(rt.alloc(), &typed) {
@@ -140,11 +147,17 @@ where
         let Err(fault) = judge_turn(board, self.player, dice, &turn) else {
             return Ok(());
         };
-        if fault == TurnFault::MoreCanBePlayed && self.beyond(board, dice, &turn)?.is_some() {
-            self.typed = typed;
-            return self.tell_typed();
+        if fault != TurnFault::MoreCanBePlayed || self.beyond(board, dice, &turn)?.is_none() {
+            return self.refuse_turn(board, dice, &turn, fault);
         }
-        self.refuse_turn(board, dice, &turn, fault)
+        match fits_marks(rt.alloc(), &typed, board, self.player, &turn) {
+            Ok(true) => {
+                self.typed = typed;
+                self.tell_typed()
+            }
+            Ok(false) => self.tell_fault(&TypedFault::WrongHits),
+            Err(fault) => self.tell_fault(&fault),
+        }
     }
 
     /// Plays the turn that was read. But asks which one is meant where what was typed is also a
@@ -217,15 +230,5 @@ where
         };
         let line = allocated(rt, so_far(rt.alloc(), self.player, &turn))?;
         self.screen.say(&line)
-    }
-
-    /// Forgets what was typed of a turn.
-    pub(super) fn undo(&mut self) -> Result<(), Ending> {
-        if self.typed.is_empty() {
-            return self.screen.say(NOTHING_TYPED);
-        }
-        self.typed.clear();
-        self.screen.say(TAKEN_BACK)?;
-        self.prompt()
     }
 }

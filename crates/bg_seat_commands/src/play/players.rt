@@ -2,7 +2,7 @@
 
 use bg_board::Player;
 use bg_console::{Called, Pairing};
-use bg_match::Standing;
+use bg_match::{Phase, Standing};
 use bg_processes::Names;
 use std::alloc::{AllocError, Global};
 
@@ -51,7 +51,8 @@ pub(super) fn named_score(
 }
 
 /// Returns the line of the score with these names, this player first:
-/// `score: Anna (X, you) 1 of 7, Otto (O) 0 of 7`.
+/// `score: Anna (X, you) 1 of 7, Otto (O) 0 of 7`. When the match is over, without the points that
+/// it was played to.
 fn score_line(
     alloc: Global,
     standing: &Standing,
@@ -65,6 +66,9 @@ fn score_line(
         Player::X => (x, o),
         Player::O => (o, x),
     };
+    if matches!(standing.phase(), Phase::Over(_)) {
+        return format!(in alloc; "score: {own} {points}, {other} {of_other}");
+    }
     let length = standing.length();
     format!(in alloc; "score: {own} {points} of {length}, {other} {of_other} of {length}")
 }

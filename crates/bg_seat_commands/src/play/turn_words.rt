@@ -75,7 +75,7 @@ pub(super) fn adds_nothing(line: &[u8]) -> bool {
 }
 
 /// Returns a line without the word `m` or `move` at its beginning.
-fn without_move(line: &[u8]) -> &[u8] {
+pub(super) fn without_move(line: &[u8]) -> &[u8] {
     let line = line.trim_ascii();
     match line {
         [b'm' | b'M', rest @ ..] => match rest {

@@ -47,7 +47,7 @@ fn check_refusal(rt: &impl Abort, alloc: Global, row: &[&str; 3]) {
     check_told(rt, line, text_of(&text), wanted);
 }
 
-const REFUSALS: [[&str; 3]; 11] = [
+const REFUSALS: [[&str; 3]; 18] = [
     [
         "length 5\nopen 6 1\n",
         "roll",
@@ -75,7 +75,7 @@ const REFUSALS: [[&str; 3]; 11] = [
     [
         "length 5\nopen 6 1\n",
         "move 12-6",
-        "12-6 can't be played: you have no checker on point 12\n\
+        "12-6 can't be played: point 12 has checkers of O, none of yours\n\
         your turn, X: move .. (`legal` lists the turns), resign normal, resign gammon, resign backgammon\n",
     ],
     [
@@ -106,7 +106,48 @@ const REFUSALS: [[&str; 3]; 11] = [
     [
         "length 1\nopen 6 1\nX move 13-7 8-7\n",
         "double",
+        "a match to one point is played without the cube\nyour turn, O: roll, resign normal, resign gammon, resign backgammon\n",
+    ],
+    // What forbids a double in the whole game comes before the dice.
+    [
+        "length 1\nopen 6 1\n",
+        "double",
+        "a match to one point is played without the cube\n\
+        your turn, X: move .. (`legal` lists the turns), resign normal, resign gammon, resign backgammon\n",
+    ],
+    [
+        "length 2\nopen 6 1\nX resign normal\nO accept\nopen 6 1\nX move 13-7 8-7\n",
+        "double",
         "nobody can double in the Crawford game\nyour turn, O: roll, resign normal, resign gammon, resign backgammon\n",
+    ],
+    [
+        "length 2\nopen 6 1\nX resign normal\nO accept\nopen 6 1\n",
+        "double",
+        "nobody can double in the Crawford game\n\
+        your turn, X: move .. (`legal` lists the turns), resign normal, resign gammon, resign backgammon\n",
+    ],
+    [
+        "length 2\nopen 6 1\nX resign normal\nO accept\nopen 6 1\nX resign normal\n",
+        "double",
+        "nobody can double in the Crawford game\nyour turn, O: accept, reject\n",
+    ],
+    [
+        "length 5\nopen 6 1\nX move 13-7 8-7\nO double\nX take\nO roll 6 1\n",
+        "double",
+        "the cube is X's, so you can't double\n\
+        your turn, O: move .. (`legal` lists the turns), resign normal, resign gammon, resign backgammon\n",
+    ],
+    [
+        "length 5\nopen 6 1\nX move 13-7 8-7\nO double\nX take\nO roll 6 1\nO move 13-7 8-7\nX roll 2 1\n",
+        "double",
+        "you can double only before you roll\n\
+        your turn, X: move .. (`legal` lists the turns), resign normal, resign gammon, resign backgammon\n",
+    ],
+    // While a double is answered, that comes first.
+    [
+        "length 5\nopen 6 1\nX move 13-7 8-7\nO double\nX take\nO roll 6 1\nO move 13-7 8-7\nX double\n",
+        "double",
+        "answer the double first\nyour turn, O: take, drop\n",
     ],
 ];
 
@@ -153,7 +194,25 @@ fn check_turn(rt: &impl Abort, alloc: Global, first: Die, second: Die, row: &[&s
 }
 
 /// With 6 and 1.
-const TURNS: [[&str; 4]; 10] = [
+const TURNS: [[&str; 4]; 13] = [
+    [
+        "24:2 13:5 8:3 6:5",
+        "24:2 13:5 8:3 6:5",
+        "move 12-6",
+        "12-6 can't be played: point 12 has checkers of O, none of yours\n",
+    ],
+    [
+        "24:2 13:5 8:3 6:5",
+        "24:2 13:5 8:2 6:5 4:1",
+        "move 21-15",
+        "21-15 can't be played: point 21 has a checker of O, none of yours\n",
+    ],
+    [
+        "24:2 13:5 8:3 6:5",
+        "24:2 13:5 8:3 6:5",
+        "move 9-3",
+        "9-3 can't be played: you have no checker on point 9\n",
+    ],
     [
         "24:2 13:5 8:3 6:5",
         "24:2 13:5 8:3 6:5",
@@ -271,6 +330,14 @@ const BORNE_OFF: [&str; 4] = [
     "3-off can't be played: no die is left for it\n",
 ];
 
+/// The checker of O on his 3 point was hit, and so no longer stands there, which is 22 to X.
+const BY_TWO_TWOS_AFTER_A_HIT: [&str; 4] = [
+    "24:1 13:6 8:3 6:5",
+    "24:2 13:6 8:2 6:4 3:1",
+    "move 24-22 22-20 22-20",
+    "22-20 can't be played: you have no checker on point 22\n",
+];
+
 const BY_TWO_THREES: [&str; 4] = [
     "13:7 8:1 6:5",
     "1:15",
@@ -312,4 +379,11 @@ fn refusals_of_turns(rt: HostRuntime) {
     check_turn(&rt, rt.alloc(), Die::Three, Die::One, &BY_3_AND_1);
     check_turn(&rt, rt.alloc(), Die::Six, Die::Five, &BY_6_AND_5);
     check_turn(&rt, rt.alloc(), Die::Two, Die::Two, &BY_TWO_TWOS);
+    check_turn(
+        &rt,
+        rt.alloc(),
+        Die::Two,
+        Die::Two,
+        &BY_TWO_TWOS_AFTER_A_HIT,
+    );
 }

@@ -30,7 +30,7 @@ fn check_results(rt: &impl Abort, alloc: Global, row: &[&str; 4]) {
     check_result(rt, alloc, &standings, Player::O, to_o);
 }
 
-const RESULTS: [[&str; 4]; 4] = [
+const RESULTS: [[&str; 4]; 8] = [
     [
         "length 5\nopen 6 1\n",
         "length 5\nopen 6 1\nX move 13-7 8-7\n",
@@ -52,8 +52,36 @@ const RESULTS: [[&str; 4]; 4] = [
     [
         "length 2\nopen 6 1\nX resign backgammon\n",
         "length 2\nopen 6 1\nX resign backgammon\nO accept\n",
-        "O wins the match 3 to 0\n",
-        "you win the match 3 to 0\n",
+        "O wins a backgammon, 3 points, and the match, 3-0\n",
+        "you win a backgammon, 3 points, and the match, 3-0\n",
+    ],
+    [
+        "length 1\nopen 6 1\nX resign gammon\n",
+        "length 1\nopen 6 1\nX resign gammon\nO accept\n",
+        "O wins a gammon, 2 points, and the match, 2-0\n",
+        "you win a gammon, 2 points, and the match, 2-0\n",
+    ],
+    // With the cube at two a normal win counts as much as a gammon without it.
+    [
+        "length 3\nopen 6 1\nX resign normal\nO accept\nopen 1 6\nO resign normal\nX accept\n\
+        open 6 1\nX move 13-7 8-7\nO double\nX take\nO resign normal\n",
+        "length 3\nopen 6 1\nX resign normal\nO accept\nopen 1 6\nO resign normal\nX accept\n\
+        open 6 1\nX move 13-7 8-7\nO double\nX take\nO resign normal\nX accept\n",
+        "you win the match, 3-1\n",
+        "X wins the match, 3-1\n",
+    ],
+    [
+        "length 3\nopen 6 1\nX move 13-7 8-7\nO double\nX take\nO resign gammon\n",
+        "length 3\nopen 6 1\nX move 13-7 8-7\nO double\nX take\nO resign gammon\nX accept\n",
+        "you win a gammon, 4 points, and the match, 4-0\n",
+        "X wins a gammon, 4 points, and the match, 4-0\n",
+    ],
+    // Of two games the points alone say nothing of the last one.
+    [
+        "length 2\nopen 6 1\nX resign normal\n",
+        "length 2\nopen 6 1\nX resign normal\nO accept\nopen 6 1\nX resign normal\nO accept\n",
+        "O wins the match, 2-0\n",
+        "you win the match, 2-0\n",
     ],
 ];
 

@@ -130,7 +130,7 @@ score: O (you) 0 of 3, X 0 of 3
 bar: O 1, X 0; off: O 0, X 2
 pips: O (you) 146, X 57
 cube: 1 in the middle
-last: X move 8-3 6-1 5-off 5-off (as X counts)
+last: X move 8-3 6-1* 5-off 5-off (as X counts)
 O to roll
 ";
 
@@ -139,7 +139,7 @@ const WON: &str =
     "length 2\nopen 1 3\nO move 8-5 6-5\nX double\nO take\nX resign normal\nO accept\n";
 
 const WON_OF_X: &str = "length 2, game 1
-score: X (you) 0 of 2, O 2 of 2
+score: X (you) 0, O 2
   13  14  15  16  17  18  |  19  20  21  22  23  24
   X5   .   .   .  O2   .  |  O4  O2   .   .   .  X2
   O5   .   .   .  X3   .  |  X5   .   .   .   .  O2
@@ -152,7 +152,7 @@ O wins the match
 ";
 
 const WON_OF_O: &str = "length 2, game 1
-score: O (you) 2 of 2, X 0 of 2
+score: O (you) 2, X 0
   13  14  15  16  17  18  |  19  20  21  22  23  24
   O5   .   .   .  X3   .  |  X5   .   .   .   .  O2
   X5   .   .   .  O2   .  |  O4  O2   .   .   .  X2
@@ -162,6 +162,51 @@ pips: O (you) 163, X 167
 cube: 2 of O (you)
 last: X resign normal
 O wins the match
+";
+
+/// A match to one point has no cube, and no Crawford game. X hits, and goes on with the same checker.
+const TO_ONE: &str = "length 1\nopen 3 1\nX move 8-5 6-5\nO roll 6 2\nO move 13-7 13-11\n\
+    X roll 6 5\nX move 24-18 18-13\n";
+
+const TO_ONE_OF_O: &str = "length 1, game 1
+score: O (you) 0 of 1, X 0 of 1
+  13  14  15  16  17  18  |  19  20  21  22  23  24
+  O3   .   .   .  X2   .  |  X4  X2   .   .   .  O2
+  X6  O1   .   .  O3   .  |  O5   .   .   .   .  X1
+  12  11  10   9   8   7  |   6   5   4   3   2   1
+bar: O 1, X 0; off: O 0, X 0
+pips: O (you) 177, X 152
+last: X move 24-18* 18-13 (as X counts)
+O to roll
+";
+
+/// What X did in the game before is not told in the next one, neither before it opens.
+const DROPPED: &str = "length 3\nopen 1 3\nO move 8-5 6-5\nX double\nO drop\n";
+
+const DROPPED_OF_O: &str = "length 3, game 2
+score: O (you) 0 of 3, X 1 of 3
+  13  14  15  16  17  18  |  19  20  21  22  23  24
+  O5   .   .   .  X3   .  |  X5   .   .   .   .  O2
+  X5   .   .   .  O3   .  |  O5   .   .   .   .  X2
+  12  11  10   9   8   7  |   6   5   4   3   2   1
+bar: O 0, X 0; off: O 0, X 0
+pips: O (you) 167, X 167
+cube: 1 in the middle
+the game to open
+";
+
+const OPENED_AGAIN: &str = "length 3\nopen 1 3\nO move 8-5 6-5\nX double\nO drop\nopen 1 3\n";
+
+const OPENED_AGAIN_OF_O: &str = "length 3, game 2
+score: O (you) 0 of 3, X 1 of 3
+  13  14  15  16  17  18  |  19  20  21  22  23  24
+  O5   .   .   .  X3   .  |  X5   .   .   .   .  O2
+  X5   .   .   .  O3   .  |  O5   .   .   .   .  X2
+  12  11  10   9   8   7  |   6   5   4   3   2   1
+bar: O 0, X 0; off: O 0, X 0
+pips: O (you) 167, X 167
+cube: 1 in the middle
+O to move 1 3
 ";
 
 /// X has a checker on the bar, and no step by his sixes. By the first rules he moves no checker, and
@@ -207,7 +252,7 @@ pub(crate) fn check_view(
 }
 
 /// A transcript, a player, and all that he sees at its end.
-const VIEWS: [(&str, Player, &str); 10] = [
+const VIEWS: [(&str, Player, &str); 13] = [
     (OPENED, Player::O, OPENED_OF_O),
     (CRAWFORD, Player::O, CRAWFORD_OF_O),
     (TAKEN, Player::X, TAKEN_OF_X),
@@ -218,6 +263,9 @@ const VIEWS: [(&str, Player, &str); 10] = [
     (HIT, Player::O, HIT_OF_O),
     (WON, Player::X, WON_OF_X),
     (WON, Player::O, WON_OF_O),
+    (TO_ONE, Player::O, TO_ONE_OF_O),
+    (DROPPED, Player::O, DROPPED_OF_O),
+    (OPENED_AGAIN, Player::O, OPENED_AGAIN_OF_O),
 ];
 
 #[test]

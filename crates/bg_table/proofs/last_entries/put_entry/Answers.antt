@@ -1,8 +1,10 @@
-use Rattle.std.proofs.Common.{Some, sym}
-use Rattle.bg_text.proofs.Judged.WrittenLines.{seat_of_entry}
+use Rattle.std.proofs.Common.{subst}
+use Rattle.bg_match.specs.Follows.{CanFollow}
+use Rattle.bg_match.specs.declared.entries.Entry.{Entry}
+use Rattle.bg_table.proofs.Earlier.{moved_steps}
 use Rattle.bg_table.proofs.last_entries.put_entry.Goals as goal
 
-pub entry_text-requires : goal.entry_text-requires
-entry_text-requires c =
-    seat_of_entry c.args.log.now.terms c.args.log.now.entries c.args.number (Some c.args.player) c.unwrap-entry.result.now
-    c.requires.legal c.requires.made.0 c.requires.made.2 (sym (rw c.unwrap-entry.ensures at c.entry.ensures))
+pub put_move-requires : goal.put_move-requires
+put_move-requires c =
+    let follows = subst (λ (e : Entry). CanFollow c.args.before.now e) c.in-Moved.is c.requires.follows in
+    rw (c.board.ensures, c.steps.ensures.value) (moved_steps c.args.before.now c.args.player _ c.requires.acts follows)

@@ -1,12 +1,12 @@
 use Rattle.std.proofs.Common.{ap, ◌∙◌, ◌++◌}
 use Rattle.std.specs.Prelude.{codes}
 use Rattle.bg_board.specs.Position.{count}
-use Rattle.bg_table.specs.StepRefusals.{further_words, missing_words, place_words}
+use Rattle.bg_table.specs.MissingCheckers.{further_words, none_words, place_words}
 use Rattle.bg_table.proofs.Grown.{four_parts}
-use Rattle.bg_table.proofs.step_refusals.put_missing.Goals as goal
+use Rattle.bg_table.proofs.missing_checkers.put_none.Goals as goal
 
 pub returns : goal.returns
-unfolding missing_words
+unfolding none_words
 returns c =
     let word = c.further.ensures ∙ ap further_words c.count.ensures.value in
     let put = c.in_ok-put_text-2.ensures ∙ ap (λ xs. c.put_text.new.out.items ++ xs) word in
