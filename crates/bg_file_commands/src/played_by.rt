@@ -28,19 +28,26 @@ where
 
 /// Returns the text of the commands.
 fn commands_text(alloc: Global, folder: &str) -> Result<Vec<u8>, AllocError> {
-    let word = format!(in alloc; "{}", ShellWord(without_slashes(folder)))?;
-    let (folder, joint) = (word.as_str(), joint_of(folder));
+    let joint = joint_of(folder);
+    let folder = format!(in alloc; "{}", ShellWord(without_slashes(folder)))?;
+    let own = format!(in alloc; "--dir {}", folder.as_str())?;
     let mut text = Vec::new(alloc);
     put_text(&mut text, "then run, each in a terminal of its own:\n")?;
-    put_command(&mut text, &["bg_relay referee"], &["--dir ", folder])?;
+    put_command(&mut text, "bg_relay referee", own.as_str())?;
     for (party, letter) in [(SEAT_OF_X, "x"), (SEAT_OF_O, "o")] {
-        let name = name_of_key_file(party);
-        let play = ["bg_relay play --match ", folder, "/", name];
-        put_command(&mut text, &play, &["--dir ", folder, joint, letter])?;
+        let key_file = match_words(alloc, folder.as_str(), party)?;
+        let play = format!(in alloc; "bg_relay play {}", key_file.as_str())?;
+        let own = format!(in alloc; "--dir {}{joint}{letter}", folder.as_str())?;
+        put_command(&mut text, play.as_str(), own.as_str())?;
     }
-    let watch = ["--match ", folder, "/", name_of_key_file(FIRST_WATCHER)];
-    put_command(&mut text, &["bg_relay watch"], &watch)?;
+    let watched = match_words(alloc, folder.as_str(), FIRST_WATCHER)?;
+    put_command(&mut text, "bg_relay watch", watched.as_str())?;
     Ok(text)
+}
+
+/// Returns the option that names a party's key file.
+fn match_words(alloc: Global, folder: &str, party: u8) -> Result<String, AllocError> {
+    format!(in alloc; "--match {folder}/{}", name_of_key_file(party))
 }
 
 /// Returns what stands between the name of a match's folder and the letter of a seat in the name of
@@ -54,34 +61,17 @@ fn joint_of(folder: &str) -> &'static str {
 }
 
 /// Appends a command of two parts, on two lines where it has no room on one.
-fn put_command(text: &mut Vec<u8>, front: &[&str], back: &[&str]) -> Result<(), AllocError> {
+fn put_command(text: &mut Vec<u8>, front: &str, back: &str) -> Result<(), AllocError> {
     let columns = INDENT
         .len()
         .saturating_add(1)
-        .saturating_add(columns_of(front));
-    let fits = columns.saturating_add(columns_of(back)) <= COLUMNS;
+        .saturating_add(front.chars().count())
+        .saturating_add(back.chars().count());
     put_text(text, INDENT)?;
-    put_all(text, front)?;
-    put_text(text, if fits { " " } else { BROKEN })?;
-    put_all(text, back)?;
+    put_text(text, front)?;
+    put_text(text, if columns <= COLUMNS { " " } else { BROKEN })?;
+    put_text(text, back)?;
     put_text(text, "\n")
-}
-
-/// Appends these pieces.
-fn put_all(text: &mut Vec<u8>, pieces: &[&str]) -> Result<(), AllocError> {
-    for piece in pieces {
-        put_text(text, piece)?;
-    }
-    Ok(())
-}
-
-/// Returns the number of columns of these pieces.
-fn columns_of(pieces: &[&str]) -> usize {
-    let mut columns = 0usize;
-    for piece in pieces {
-        columns = columns.saturating_add(piece.chars().count());
-    }
-    columns
 }
 
 /// A name as a shell reads it, between quotes where it needs some. A character that can't be
