@@ -3,8 +3,8 @@ use Rattle.bg_match.specs.Match.{StandsAt}
 use Rattle.bg_c.proofs.Shown.{as_many, follows_here, leads_on}
 use Rattle.bg_c.proofs.parties.shown.standing_after.Goals as goal
 
-pub next_standing-requires : goal.next_standing-requires
-next_standing-requires c =
+pub next_standing-standing-requires : goal.next_standing-standing-requires
+next_standing-standing-requires c =
     follows_here c.args.log.now c.loop-played.played c.loop-played.standing c.unwrap-entry.result.now c.len.ensures.legal
     c.loop-played.invariant (sym (rw c.unwrap-entry.ensures at c.entry.ensures))
 
