@@ -192,7 +192,7 @@ score: O (you) 0 of 3, X 1 of 3
 bar: O 0, X 0; off: O 0, X 0
 pips: O (you) 167, X 167
 cube: 1 in the middle
-the game to open
+opening
 ";
 
 const OPENED_AGAIN: &str = "length 3\nopen 1 3\nO move 8-5 6-5\nX double\nO drop\nopen 1 3\n";
