@@ -20,6 +20,7 @@ pub mod FoundTurns
 pub mod ToldApart
 pub mod Parts
 pub mod Hits
+pub mod ComparedHits
 pub mod Replays
 pub mod Readings
 pub mod Refusing

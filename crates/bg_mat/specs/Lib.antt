@@ -1,5 +1,6 @@
 pub mod Legs
 pub mod Turns
+pub mod ComparedHits
 pub mod FirstTurns
 pub mod Telling
 pub mod Replaying

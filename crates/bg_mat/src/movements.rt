@@ -1,6 +1,7 @@
 //! What a movement and a turn have in common: the points between which checkers move, and their
 //! hits.
 ghost use Rattle.std.specs.Prelude.{◌≡◌, ◌≤◌, ◌↔◌, length, IsTrue};
+ghost use Rattle.bg_mat.specs.ComparedHits.{HitsMarked, MarksHit};
 ghost use Rattle.bg_mat.specs.Turns.{HasHits, SameMovement, coming, is_hit as is_hit_by_rule};
 ghost use Rattle.bg_mat.specs.Turns.{is_marked as is_marked_point, is_reached as is_reached_point, leaving, steps_of};
 
@@ -93,14 +94,41 @@ pub fn is_hit(board: &Board, player: Player, steps: &[Step], point: u8) -> bool
     point > OFF && board.count(player.opponent(), BAR - point) == 1 && is_reached(steps, point)
 }
 
+/// Returns whether a turn with these steps hits on the point where a step ends.
+fn is_hit_by(board: &Board, player: Player, steps: &[Step], step: Step) -> bool
+    ensures hit { result ≡ is_hit_by_rule board.now player steps.now step.to }
+    ensures point { step.to ≤ 25 }
+{
+    is_hit(board, player, steps, step.to())
+}
+
+/// Returns whether the steps hit on each point on which one of these legs marks a hit.
+fn hits_marked(board: &Board, player: Player, marked: &[Leg], steps: &[Step]) -> bool
+    ensures { IsTrue result ↔ HitsMarked board.now player marked.now steps.now }
+{
+    match marked.split_first() {
+        Some((leg, _)) if leg.hits && !is_hit_by(board, player, steps, leg.step) => false,
+        Some((_, rest)) => hits_marked(board, player, rest, steps),
+        None => true,
+    }
+}
+
+/// Returns whether the legs mark a hit on each point on which one of these steps ends and the steps
+/// hit.
+fn marks_hit(board: &Board, player: Player, legs: &[Leg], steps: &[Step], ending: &[Step]) -> bool
+    ensures { IsTrue result ↔ MarksHit board.now player legs.now steps.now ending.now }
+{
+    match ending.split_first() {
+        Some((step, _)) if is_hit_by(board, player, steps, *step) && !is_marked(legs, step.to()) =>
+            false,
+        Some((_, rest)) => marks_hit(board, player, legs, steps, rest),
+        None => true,
+    }
+}
+
 /// Returns whether the legs mark exactly those points where the steps hit.
 pub(crate) fn same_hits(board: &Board, player: Player, legs: &[Leg], steps: &[Step]) -> bool
     ensures { IsTrue result ↔ HasHits board.now player legs.now steps.now }
 {
-    for point in 0..BAR + 1 {
-        if is_marked(legs, point) != is_hit(board, player, steps, point) {
-            return false;
-        }
-    }
-    true
+    hits_marked(board, player, legs, steps) && marks_hit(board, player, legs, steps, steps)
 }
