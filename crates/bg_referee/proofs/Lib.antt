@@ -7,6 +7,7 @@ pub mod Answering
 pub mod Refusing
 pub mod DueEntries
 pub mod DueRefusals
+pub mod KnownNumbers
 pub mod Rounds
 pub mod Hearing
 pub mod Taking

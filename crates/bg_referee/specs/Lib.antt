@@ -1,3 +1,4 @@
+pub mod KnownNumbers
 pub mod Sessions
 pub mod Referee
 pub mod Dues

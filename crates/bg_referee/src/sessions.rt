@@ -4,6 +4,7 @@ ghost use Rattle.std.specs.Prelude.{◌≡◌, ◌<◌, ◌+◌, ◌++◌, ◌�
 ghost use Rattle.bg_wire.specs.Entries.Codes.{most_in_packet};
 ghost use Rattle.bg_referee.specs.Sessions.{IsSessions, no_sessions, tell, hear_sender, behind};
 ghost use Rattle.bg_referee.specs.Sessions.{pushed, party_after, after_pushes, last_party, most_pushes};
+ghost use Rattle.bg_referee.specs.Sessions.{told_to};
 ghost use Rattle.bg_referee.specs.Rulings.{IsShowable, hear_ruling};
 
 use crate::rulings::Ruling;
@@ -30,18 +31,23 @@ const PLACES: usize = LAST_PARTY as usize + 1;
 /// Contracts see both.
 #[derive(Debug, Drop)]
 pub(crate) struct Sessions {
-    told: [Option<Number>; PLACES],
+    /// Whether anything is known of each party. An array of options would take twice the room.
+    known: [bool; PLACES],
+    /// The number of the last entry that each party is known to have, where anything is known of
+    /// it.
+    told: [Number; PLACES],
     cursor: u8,
 }
 
 impl Model for Sessions {
+    ghost use Rattle.bg_referee.specs.KnownNumbers.{known_numbers};
     ghost use Rattle.bg_referee.specs.Sessions.{SessionsView, IsSessions};
 
     ghost Value = { SessionsView };
 
-    ghost view = { λ s. record { told = s.told; cursor = s.cursor } };
+    ghost view = { λ s. record { told = known_numbers s.known s.told; cursor = s.cursor } };
 
-    ghost invariant = { λ s. IsSessions (record { told = s.told; cursor = s.cursor }) };
+    ghost invariant = { λ s. IsSessions (record { told = known_numbers s.known s.told; cursor = s.cursor }) };
 }
 
 impl Sessions {
@@ -51,7 +57,8 @@ impl Sessions {
         ensures sessions { IsSessions result }
     {
         Sessions {
-            told: [None; PLACES],
+            known: [false; PLACES],
+            told: [0; PLACES],
             cursor: FIRST_PARTY,
         }
     }
@@ -92,7 +99,9 @@ impl Sessions {
     fn tell(&mut self, party: u8, number: Number)
         ensures { self.new ≡ tell self.old party number }
     {
-        self.told[usize::from(party)] = Some(number);
+        let place = usize::from(party);
+        self.known[place] = true;
+        self.told[place] = number;
     }
 
     /// Returns the first two parties, once round from the cursor on, that are known to have less
@@ -124,10 +133,23 @@ impl Sessions {
         if found.is_full() {
             return;
         }
-        if let Some(number) = self.told[party] {
+        if let Some(number) = self.told_to(party) {
             if number < saved {
                 found.push((party as u8, number));
             }
+        }
+    }
+
+    /// Returns the number of the last entry that a party is known to have, or None where nothing is
+    /// known of it.
+    fn told_to(&self, party: usize) -> Option<Number>
+        requires { party < last_party + 1 }
+        ensures { result ≡ told_to self.now party }
+    {
+        if self.known[party] {
+            Some(self.told[party])
+        } else {
+            None
         }
     }
 
