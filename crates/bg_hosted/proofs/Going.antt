@@ -1,12 +1,14 @@
 -- What goes on, goes on further.
-use Rattle.std.proofs.Common.{◌≡◌, List, [], ◌∷◌, ◌++◌, refl, subst}
+use Rattle.std.proofs.Common.{◌≡◌, ℕ, List, [], ◌∷◌, ◌++◌, refl, subst}
 use Rattle.std.specs.List.{AllByRecursion}
 use Rattle.bg_world.specs.Worlds.Calls.{Calls}
 use Rattle.bg_world.specs.Worlds.Views.{WorldView}
 use Rattle.bg_world.specs.Worlds.WorldRuns.{CallsAll}
 use Rattle.bg_world.specs.declared.events.Event.{Event}
 use Rattle.bg_world.specs.declared.events.Outcome.{Outcome}
+use Rattle.bg_world.specs.declared.events.Event.TheVariants as events
 use Rattle.bg_hosted.specs.Going.{GoesOn, IsNoChoice}
+use Rattle.bg_hosted.specs.Lives.{Restarts}
 
 -- nothing happens
 pub stays : (k : Type 0) (w v : WorldView) → v ≡ w → GoesOn k w v
@@ -21,6 +23,10 @@ goes_by k old event outcome new none calls = record {
   none_chosen = (none, tt);
   calls = (new, calls, refl);
 }
+
+-- a party restarts
+pub goes_by_restart : (k : Type 0) (old : WorldView) (party : ℕ) (new : WorldView) → Restarts k old party new → GoesOn k old new
+goes_by_restart k old party new restarts = goes_by k old (events.Restart party) restarts.0 new tt restarts.1
 
 all_behind : (P : Event → Type 0) (xs ys : List Event) → AllByRecursion P xs → AllByRecursion P ys → AllByRecursion P (xs ++ ys)
 all_behind P [] ys h k = k

@@ -8,8 +8,9 @@ use Rattle.bg_match.specs.declared.entries.Entry.{Entry}
 use Rattle.bg_wire.specs.Parties.{party_of}
 use Rattle.bg_world.specs.Protocol.Roles.{role}
 use Rattle.bg_world.specs.Worlds.Calls.{Calls}
+use Rattle.bg_world.specs.Worlds.Nodes.{seat_claim}
 use Rattle.bg_world.specs.Worlds.Starts.{held_of}
-use Rattle.bg_world.specs.Worlds.Views.{WorldView}
+use Rattle.bg_world.specs.Worlds.Views.{WorldView, seat_core}
 use Rattle.bg_world.specs.declared.events.Event.TheVariants as events
 use Rattle.bg_world.specs.declared.events.Outcome.{Outcome}
 use Rattle.bg_world.specs.declared.events.Outcome.TheVariants as outcomes
@@ -31,12 +32,16 @@ pub record IsAnswered (log : Log) (player : Player) (number : ℕ) (action : Act
   pub by : IsBy log number player
   pub answer : IsAnswer action entry
 
--- what is said of an action that was claimed: whether its entry is told, or the claim was not saved
+-- what is said of an action whose claim is saved: whether its entry is told
+abbrev pub TellsEntry : ℕ → WorldView → Acted → Type 0
+TellsEntry number new acted.Done = number ≤ count_of (told_of new)
+TellsEntry number new acted.Waits = count_of (told_of new) < number
+TellsEntry number new _ = ⊥
+
+-- what is said of an action that was claimed: the same, or that the claim was not saved
 abbrev pub IsAnsweredBy : ℕ → WorldView → Acted → Type 0
-IsAnsweredBy number new acted.Done = number ≤ count_of (told_of new)
-IsAnsweredBy number new acted.Waits = count_of (told_of new) < number
 IsAnsweredBy number new acted.Failed = Unit {0}
-IsAnsweredBy number new _ = ⊥
+IsAnsweredBy number new result = TellsEntry number new result
 
 -- what is said where the claim of the player's seat came to this
 abbrev pub IsSaidOf : Outcome → ℕ → WorldView → Acted → Type 0
@@ -55,6 +60,22 @@ pub record ActsOnce
   pub goes_on : GoesOn keepers_honest mid new
   pub said : IsSaidOf outcome number new result
 
+-- An action was claimed under the number before. If it is the same, what was claimed goes on, and no
+-- player acts; under one number a seat claims one action, so another one is not done.
+abbrev pub ActsAgain : Type 0 → WorldView → ℕ → Type 0 → Acted → WorldView → Type 0
+ActsAgain keepers_honest old number is_same result new =
+    (is_same → GoesOn keepers_honest old new × TellsEntry number new result)
+    × ((is_same → ⊥) → (new ≡ old) × (result ≡ acted.OtherEntry))
+
+-- The number is that of the next entry of the seat's record. It acts once, unless the seat has
+-- claimed an action under it before.
+abbrev pub ActsNext : Type 0 → WorldView → Player → ℕ → Action → Acted → WorldView → Type 0
+ActsNext keepers_honest old player number action result new =
+    ((claimed : Action) → seat_claim (seat_core old player) ≡ Some (number, claimed)
+    → ActsAgain keepers_honest old number (claimed ≡ action) result new)
+    × (((claimed : Action) → seat_claim (seat_core old player) ≢ Some (number, claimed))
+    → ActsOnce keepers_honest old player number action result new)
+
 -- nothing happens: whether it was done is told by the record
 pub record DoesNothing
     (old : WorldView) (log : Log) (player : Player) (number : ℕ) (action : Action) (result : Acted)
@@ -64,10 +85,10 @@ pub record DoesNothing
   pub done : (result ≡ acted.Done) ↔ IsAnswered log player number action
 
 -- An action has the number of the entry that it is to become. It acts where that is the next one of
--- the seat's record, and then once; under any other number nothing happens. So it does where the
--- seat is down.
+-- the seat's record, and then once, however often it is sent; under any other number nothing happens.
+-- So it does where the seat is down.
 abbrev pub Acts : Type 0 → WorldView → Player → ℕ → Action → Acted → WorldView → Type 0
 Acts keepers_honest old player number action result new =
     MatchOption (held_of old (role (party_of player))) ((new ≡ old) × (result ≡ acted.Failed))
-    (λ log. (number ≡ length log.entries + 1 → ActsOnce keepers_honest old player number action result new)
+    (λ log. (number ≡ length log.entries + 1 → ActsNext keepers_honest old player number action result new)
     × (number ≢ length log.entries + 1 → DoesNothing old log player number action result new))

@@ -3,4 +3,5 @@ pub mod QueueLinks
 pub mod Going
 pub mod HostedMatches
 pub mod Acting
+pub mod Lives
 pub mod Laws

@@ -27,7 +27,7 @@ pub enum Acted {
 }
 
 impl<K: Keeper> HostedMatch<K> {
-    ghost use Rattle.bg_hosted.specs.Acting.{Acts, ActsOnce, IsAnsweredBy, IsSaidOf};
+    ghost use Rattle.bg_hosted.specs.Acting.{Acts, ActsAgain, ActsNext, ActsOnce, IsAnsweredBy, IsSaidOf, TellsEntry};
     ghost use Rattle.bg_world.specs.declared.events.Outcome.TheVariants.{Chose};
     ghost use Rattle.bg_hosted.specs.Going.{GoesOn};
     ghost use Rattle.bg_hosted.specs.HostedMatches.{world_of};
@@ -40,6 +40,9 @@ impl<K: Keeper> HostedMatch<K> {
     /// - `Failed` if the player's seat is down;
     /// - `Done` or `OtherEntry` if the number is not that of the next entry in the seat's record.
     ///   Then nothing happens, and the entry of that number decides: see [`is_answered`];
+    /// - `OtherEntry` if the seat has claimed another action under the number. Then nothing happens;
+    /// - `Done` or `Waits` if it has claimed this action, which goes on, by whether the entry is
+    ///   shown then;
     /// - `Refused` if the seat does not claim the action (docs/PROTOCOL.md, "Claims");
     /// - `Failed` if the claim can't be saved, also for lack of memory. The call may be repeated;
     /// - `Done` or `Waits` once the claim is saved, by whether the entry is already shown.
@@ -59,8 +62,33 @@ impl<K: Keeper> HostedMatch<K> {
         Acted::OtherEntry
     }
 
-    /// Carries out an action that is to become the next entry of the seat's record.
+    /// Carries out an action that is to become the next entry of the seat's record, unless the seat
+    /// has claimed one under that number before.
     fn act_next(&mut self, player: Player, number: Number, action: Action) -> Acted
+        ensures { ActsNext K.is_honest (world_of K.Keeper self.old) player number action result (world_of K.Keeper self.new) }
+    {
+        match self.world.claim(player) {
+            Some((claimed, open)) if claimed == number => {
+                self.act_again(number, is_same(&open, &action))
+            }
+            _ => self.act_once(player, number, action),
+        }
+    }
+
+    /// Lets the action go on that a seat has claimed under this number, if it is the one that was
+    /// sent.
+    fn act_again(&mut self, number: Number, is_same: bool) -> Acted
+        ensures { ActsAgain K.is_honest (world_of K.Keeper self.old) number (IsTrue is_same) result (world_of K.Keeper self.new) }
+    {
+        if !is_same {
+            return Acted::OtherEntry;
+        }
+        self.tick();
+        self.answer_to(number)
+    }
+
+    /// Carries out an action under a number under which the seat has claimed none.
+    fn act_once(&mut self, player: Player, number: Number, action: Action) -> Acted
         ensures { ActsOnce K.is_honest (world_of K.Keeper self.old) player number action result (world_of K.Keeper self.new) }
     {
         let seat = player;
@@ -104,6 +132,13 @@ impl<K: Keeper> HostedMatch<K> {
         self.claimed = number;
         let _ = self.pass(Event::Tick { party });
         self.settle();
+        self.answer_to(number)
+    }
+
+    /// Returns `Done` or `Waits`, by whether the entry of this number is shown.
+    fn answer_to(&self, number: Number) -> Acted
+        ensures { TellsEntry number (world_of K.Keeper self.now) result }
+    {
         if self.told() >= number {
             Acted::Done
         } else {
@@ -121,6 +156,13 @@ pub fn is_answered(log: &Record, player: Player, number: Number, action: &Action
         Some(entry) => is_by(log, number, player) && answers(entry, action),
         None => false,
     }
+}
+
+/// Returns whether two actions are the same.
+fn is_same(one: &Action, other: &Action) -> bool
+    ensures { IsTrue result ↔ (one.now ≡ other.now) }
+{
+    one == other
 }
 
 /// Returns whether the entry of this number exists and is the player's.

@@ -16,9 +16,6 @@ use std::alloc::Global;
 /// referee has sent, and the referee sends an entry only after saving it.
 pub(crate) const TELLER: u8 = FIRST_WATCHER;
 
-/// The parties that save: the referee and the two seats.
-pub(crate) const SAVERS: [u8; 3] = [REFEREE, SEAT_OF_X, SEAT_OF_O];
-
 /// The parties that follow the referee: the two seats and the teller.
 pub(crate) const FOLLOWERS: [u8; 3] = [SEAT_OF_X, SEAT_OF_O, TELLER];
 
@@ -41,11 +38,12 @@ pub struct HostedMatch<K> {
 }
 
 impl<K: Keeper + Drop> HostedMatch<K> {
-    ghost use Rattle.bg_hosted.specs.Going.{GoesOn};
     ghost use Rattle.bg_hosted.specs.HostedMatches.{fresh_match, world_of};
+    ghost use Rattle.bg_hosted.specs.Lives.{Begins};
 
     /// Returns a match that continues from what its keepers hold; over empty keepers, it begins.
-    /// Its dice are made from the key (docs/FORMATS.md, "Random words").
+    /// Its dice are made from the key (docs/FORMATS.md, "Random words"). All of its lives over the
+    /// same keepers are one run: see [`lives_are_one_run`](crate::lives_are_one_run).
     ///
     /// # Errors
     /// - `LengthOutOfRange` if the length is not from 1 to 99;
@@ -57,7 +55,7 @@ impl<K: Keeper + Drop> HostedMatch<K> {
         key: [u8; 32],
         keepers: Keepers<K>,
     ) -> Result<HostedMatch<K>, WorldFault>
-        ensures { IfOk result (λ hosted. GoesOn K.is_honest (fresh_match K.Keeper id terms keepers)
+        ensures { IfOk result (λ hosted. Begins K.is_honest (fresh_match K.Keeper id terms keepers)
             (world_of K.Keeper hosted)) }
     {
         let mut hosted = HostedMatch::fresh(alloc, id, terms, key, keepers)?;
@@ -96,6 +94,7 @@ impl<K: Keeper + Drop> HostedMatch<K> {
 impl<K: Keeper> HostedMatch<K> {
     ghost use Rattle.bg_hosted.specs.Going.{GoesOn, IsNoChoice};
     ghost use Rattle.bg_hosted.specs.HostedMatches.{IsOverBy, count_of, told_of, world_of};
+    ghost use Rattle.bg_hosted.specs.Lives.{Begins, Restarts};
 
     /// Returns the record that everybody may see, which is the teller's; `None` if the teller is
     /// down.
@@ -142,19 +141,19 @@ impl<K: Keeper> HostedMatch<K> {
     /// Restarts the parties that save from what their keepers hold, and lets all parties work until
     /// nothing moves.
     fn go_on(&mut self)
-        ensures { GoesOn K.is_honest (world_of K.Keeper self.old) (world_of K.Keeper self.new) }
+        ensures { Begins K.is_honest (world_of K.Keeper self.old) (world_of K.Keeper self.new) }
     {
-        for party in SAVERS {
-            self.restart(party);
-        }
+        self.restart(REFEREE);
+        self.restart(SEAT_OF_X);
+        self.restart(SEAT_OF_O);
         self.tick();
     }
 
     /// Restarts a party from what its keeper holds. If that fails, the match is restless.
     pub(crate) fn restart(&mut self, party: u8)
-        ensures { GoesOn K.is_honest (world_of K.Keeper self.old) (world_of K.Keeper self.new) }
+        ensures { Restarts K.is_honest (world_of K.Keeper self.old) party (world_of K.Keeper self.new) }
     {
-        if self.pass(Event::Restart { party }) != Outcome::Restarted {
+        if self.happen(Event::Restart { party }) != Outcome::Restarted {
             self.restless = true;
         }
         if party == REFEREE {

@@ -1,5 +1,6 @@
 //! Laws about hosted matches, each written as the contract of a function that does nothing.
 ghost use Rattle.bg_hosted.specs.Laws.{StaysReached, TellsSavedAlone};
+ghost use Rattle.bg_hosted.specs.Lives.{BeginsReached, GoesOnReached};
 
 /// States two laws about a match over honest keepers that a run can lead to (docs/PROTOCOL.md, "The
 /// state and its steps"):
@@ -9,4 +10,14 @@ ghost use Rattle.bg_hosted.specs.Laws.{StaysReached, TellsSavedAlone};
 pub fn what_is_told_is_saved()
     ensures reached { StaysReached }
     ensures saved { TellsSavedAlone }
+{}
+
+/// States that all lives of a match at a server are one run, however often it is killed, over
+/// honest keepers (docs/PROTOCOL.md, "The state and its steps"):
+/// - `begins`: if a run leads to the world that one life leaves, it leads to that with which the
+///   next life begins, over the same slots;
+/// - `goes_on`: it goes on to do so, whatever event happens in that life.
+pub fn lives_are_one_run()
+    ensures begins { BeginsReached }
+    ensures goes_on { GoesOnReached }
 {}

@@ -25,5 +25,5 @@ mod waiting;
 
 pub use acting::{Acted, is_answered};
 pub use hosted_matches::HostedMatch;
-pub use laws::what_is_told_is_saved;
+pub use laws::{lives_are_one_run, what_is_told_is_saved};
 pub use queue_links::{MOST_WAITING, QueueLink};

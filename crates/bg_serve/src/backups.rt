@@ -6,7 +6,6 @@ use bg_wire::{REFEREE, SEAT_OF_O, SEAT_OF_X, restore};
 use std::fs::{DirBuilder, File, OpenOptions};
 use std::io::{ErrorKind, Write};
 use std::os::unix::fs::{DirBuilderExt, OpenOptionsExt};
-use std::rt::Files;
 use std::{fs, io};
 
 /// A folder, and a file, for their owner alone.
@@ -57,12 +56,7 @@ fn copy_files(rt: &HostRuntime, from: &str, to: &str) -> io::Result<()> {
 }
 
 /// Copies a file.
-fn copy_file(
-    rt: &(impl Files<File = File> + AllocGlobal),
-    from: &str,
-    to: &str,
-    name: &str,
-) -> io::Result<()> {
+fn copy_file(rt: &HostRuntime, from: &str, to: &str, name: &str) -> io::Result<()> {
     let bytes = fs::read(rt, path_in(rt.alloc(), from, name)?.as_str())?;
     let path = path_in(rt.alloc(), to, name)?;
     let mut file = OpenOptions::new()
@@ -77,7 +71,7 @@ fn copy_file(
 
 /// Returns whether the saves in a folder can be restored, and no seat has more entries than the
 /// referee.
-fn is_whole(rt: &(impl Files<File = File> + AllocGlobal), folder: &str) -> io::Result<bool> {
+fn is_whole(rt: &HostRuntime, folder: &str) -> io::Result<bool> {
     let path = path_in(rt.alloc(), folder, "match")?;
     let Some(file) = MatchFile::read(rt, path.as_str())? else {
         return Ok(false);
@@ -98,7 +92,7 @@ fn is_whole(rt: &(impl Files<File = File> + AllocGlobal), folder: &str) -> io::R
 
 /// Returns how many entries a party has saved; None where its saves can't be restored.
 fn entries_of(
-    rt: &(impl Files<File = File> + AllocGlobal),
+    rt: &HostRuntime,
     folder: &str,
     file: &MatchFile,
     party: u8,

@@ -2,11 +2,10 @@
 //! last.
 
 use bg_console::path_in;
-use std::fs::{File, OpenOptions};
+use std::fs::OpenOptions;
 use std::io::ErrorKind;
 use std::os::unix::fs::{MetadataExt, OpenOptionsExt};
-use std::rt::Files;
-use std::time::{Clock, SystemTime};
+use std::time::SystemTime;
 use std::{fs, io};
 
 /// The name of the file that a match has which lists leave out. It is empty.
@@ -22,10 +21,7 @@ const OWNER_ALONE: u32 = 0o600;
 ///
 /// # Errors
 /// AllocError where there is no memory for a path, as of all functions here.
-pub(crate) fn is_hidden(
-    rt: &(impl Files<File = File> + AllocGlobal),
-    folder: &str,
-) -> io::Result<bool> {
+pub(crate) fn is_hidden(rt: &HostRuntime, folder: &str) -> io::Result<bool> {
     let path = path_in(rt.alloc(), folder, HIDDEN)?;
     Ok(fs::metadata(rt, path.as_str()).is_ok())
 }
@@ -34,7 +30,7 @@ pub(crate) fn is_hidden(
 ///
 /// # Errors
 /// Why the file could not be written.
-pub(crate) fn hide(rt: &(impl Files<File = File> + AllocGlobal), folder: &str) -> io::Result<()> {
+pub(crate) fn hide(rt: &HostRuntime, folder: &str) -> io::Result<()> {
     let path = path_in(rt.alloc(), folder, HIDDEN)?;
     let file = OpenOptions::new()
         .write(true)
@@ -48,7 +44,7 @@ pub(crate) fn hide(rt: &(impl Files<File = File> + AllocGlobal), folder: &str) -
 ///
 /// # Errors
 /// Why the file could not be removed.
-pub(crate) fn show(rt: &(impl Files<File = File> + AllocGlobal), folder: &str) -> io::Result<()> {
+pub(crate) fn show(rt: &HostRuntime, folder: &str) -> io::Result<()> {
     let path = path_in(rt.alloc(), folder, HIDDEN)?;
     match fs::remove_file(rt, path.as_str()) {
         Err(error) if error.kind() == ErrorKind::NotFound => Ok(()),
@@ -60,10 +56,7 @@ pub(crate) fn show(rt: &(impl Files<File = File> + AllocGlobal), folder: &str) -
 ///
 /// # Errors
 /// Why the clock could not be read.
-pub(crate) fn quiet_minutes(
-    rt: &(impl Files<File = File> + Clock + AllocGlobal),
-    folder: &str,
-) -> io::Result<u64> {
+pub(crate) fn quiet_minutes(rt: &HostRuntime, folder: &str) -> io::Result<u64> {
     let mut saved = 0;
     for slot in SLOTS {
         let path = path_in(rt.alloc(), folder, slot)?;

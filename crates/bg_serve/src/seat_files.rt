@@ -8,7 +8,6 @@ use std::fs::{File, OpenOptions};
 use std::io::{ErrorKind, Write};
 use std::os::unix::fs::OpenOptionsExt;
 use std::random::RandomSource;
-use std::rt::Files;
 use std::{fs, io};
 
 /// The name of the file.
@@ -18,10 +17,7 @@ const NAME: &str = "seats";
 const OWNER_ALONE: u32 = 0o600;
 
 /// Returns so many random bytes as hexadecimal digits.
-pub(crate) fn random_digits(
-    rt: &(impl RandomSource + AllocGlobal),
-    count: usize,
-) -> io::Result<String> {
+pub(crate) fn random_digits(rt: &HostRuntime, count: usize) -> io::Result<String> {
     let mut bytes = [0u8; 16];
     rt.fill_bytes(&mut bytes)?;
     let mut text = String::new(rt.alloc());
@@ -33,10 +29,7 @@ pub(crate) fn random_digits(
 ///
 /// # Errors
 /// Why the file could not be read; `InvalidData` where it says something else.
-pub(crate) fn read_seats(
-    rt: &(impl Files<File = File> + AllocGlobal),
-    folder: &str,
-) -> io::Result<Option<Seats>> {
+pub(crate) fn read_seats(rt: &HostRuntime, folder: &str) -> io::Result<Option<Seats>> {
     let path = path_in(rt.alloc(), folder, NAME)?;
     let text = match fs::read_to_string(rt, path.as_str()) {
         Err(error) if error.kind() == ErrorKind::NotFound => return Ok(None),
@@ -72,7 +65,7 @@ fn digest_in(text: &str) -> Option<Digest> {
 /// # Errors
 /// Why the file could not be written.
 pub(crate) fn replace_seat(
-    rt: &(impl Files<File = File> + AllocGlobal),
+    rt: &HostRuntime,
     folder: &str,
     seats: Seats,
     player: Player,
@@ -111,12 +104,7 @@ fn seats_text(alloc: Global, seats: &Seats) -> Result<String, AllocError> {
 ///
 /// # Errors
 /// Why the file could not be written.
-pub(crate) fn write_seats(
-    rt: &(impl Files<File = File> + AllocGlobal),
-    folder: &str,
-    x: &str,
-    o: &str,
-) -> io::Result<Seats> {
+pub(crate) fn write_seats(rt: &HostRuntime, folder: &str, x: &str, o: &str) -> io::Result<Seats> {
     let seats = Seats {
         x: digest_of(x),
         o: digest_of(o),
@@ -127,11 +115,7 @@ pub(crate) fn write_seats(
 }
 
 /// Writes the file of a folder that has none yet, and has it written through.
-fn write_new(
-    rt: &(impl Files<File = File> + AllocGlobal),
-    folder: &str,
-    text: &str,
-) -> io::Result<()> {
+fn write_new(rt: &HostRuntime, folder: &str, text: &str) -> io::Result<()> {
     let path = path_in(rt.alloc(), folder, NAME)?;
     let mut file = OpenOptions::new()
         .write(true)

@@ -4,7 +4,7 @@ use crate::lasting::lasting;
 use bg_auto::auto_action;
 use bg_board::Player;
 use bg_hosted::{Acted, HostedMatch};
-use bg_match::{Action, Actor, Rules, Terms};
+use bg_match::{Action, Actor, Level, Rules, Terms};
 use std::process::Abort;
 
 const KEY: [u8; 32] = [3; 32];
@@ -169,6 +169,32 @@ fn check_made_good(
     assert!(rt;
         act(hosted, player, number, action) == Acted::Done,
         "{number} again"
+    );
+}
+
+#[test]
+fn a_claim_whose_entry_is_not_saved(rt: HostRuntime) {
+    check_waiting(&rt);
+}
+
+/// Such an action waits. Another one under its number isn't taken for it, and sent again it goes
+/// on.
+fn check_waiting(rt: &(impl Abort + AllocGlobal)) {
+    let shelf = lasting_shelf(rt);
+    let hosted = begin(rt, shelf, 1);
+    let (player, number, action) = next(rt, hosted).expect(rt, "a player's turn");
+    shelf.fail_after(1);
+    let acted = act(hosted, player, number, action);
+    assert!(rt; acted == Acted::Waits && hosted.told() < number, "it waits");
+    let other = hosted.act(player, number, Action::Resign(Level::Backgammon));
+    assert!(rt;
+        other == Acted::OtherEntry && hosted.told() < number,
+        "another one"
+    );
+    let again = act(hosted, player, number, action);
+    assert!(rt;
+        again == Acted::Done && hosted.told() >= number,
+        "sent again"
     );
 }
 

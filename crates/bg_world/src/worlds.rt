@@ -14,7 +14,7 @@ pub(crate) mod steps;
 
 use crate::{Keeper, Keepers, Link, RefereeNode, Role, SeatNode, Setup, Watchers, WorldFault};
 use bg_board::Player;
-use bg_match::{Record, Terms};
+use bg_match::{Action, Number, Record, Terms};
 use bg_wire::FIRST_WATCHER;
 use std::alloc::Global;
 
@@ -110,8 +110,9 @@ impl<L: Link, K: Keeper> World<L, K> {
     ghost use Rattle.bg_world.specs.Protocol.Roles.{role};
     ghost use Rattle.std.specs.Borrow.{sem};
     ghost use Rattle.bg_world.specs.Worlds.HeldKeepers.{LendsKeepers};
+    ghost use Rattle.bg_world.specs.Worlds.Nodes.{seat_claim};
     ghost use Rattle.bg_world.specs.Worlds.Starts.{held_of};
-    ghost use Rattle.bg_world.specs.Worlds.Views.{link_view, parties};
+    ghost use Rattle.bg_world.specs.Worlds.Views.{link_view, parties, seat_core};
     ghost use Rattle.bg_world.specs.Worlds.World.{seat_of, view_of};
 
     /// Returns the link.
@@ -159,5 +160,13 @@ impl<L: Link, K: Keeper> World<L, K> {
             Role::Seat(player) => self.seat(player).held(),
             Role::Watcher(index) => self.watchers.held(index),
         }
+    }
+
+    /// Returns the last claim of a player's seat: the number, from 1, of the entry that shall answer
+    /// the action, and the action (docs/PROTOCOL.md, "Claims"). `None` also where the seat is down.
+    pub fn claim(&self, player: Player) -> Option<(Number, Action)>
+        ensures { result ≡ seat_claim (seat_core (view_of L.Link K.Keeper self.now) player) }
+    {
+        self.seat(player).claim()
     }
 }
