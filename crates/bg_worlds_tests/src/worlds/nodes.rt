@@ -55,7 +55,7 @@ fn next(seed: &mut u32) -> u32 {
 }
 
 /// One of the first so many numbers.
-fn below(seed: &mut u32, count: u32) -> u32
+pub(crate) fn below(seed: &mut u32, count: u32) -> u32
     requires { 1 ≤ count }
     ensures { result < count }
 {
