@@ -157,20 +157,34 @@ needs_rt() {
     fi
 }
 
+# tell_progress CRATE LOG (says each minute, by the end of what rt prints, how far it is within a crate; to be killed)
+tell_progress() {
+    while sleep 60 > /dev/null 2>&1 && kill -0 $$ 2> /dev/null; do
+        echo "bg_relay: $1, after $((SECONDS / 60)) minutes: $(tail -n 1 "$2" | cut -c 1-120)" >&2
+    done
+}
+
 # prove_up_to CRATE COMMAND.. (proves the crates that a crate stands on, the lowest first, and then runs the command in
 # it, which is one of rt that proves it; says on the standard error how far it is, and ends the script where one fails.
-# What rt prints goes to build.log of the crate's folder out)
+# What rt prints goes to build.log of the crate's folder out. rt gets the words of rt_words, as --jobs 2, if any)
+rt_words=()
 prove_up_to() {
-    local log=$top/crates/$1/out/build.log crates at command
+    local log=$top/crates/$1/out/build.log crates at command teller status
     mkdir -p "$(dirname "$log")"
     echo "bg_relay: what rt prints goes to $log" >&2
     : > "$log"
     mapfile -t crates < <(crates_of "$1")
     for at in "${!crates[@]}"; do
         echo "bg_relay: crate $((at + 1)) of ${#crates[@]}, ${crates[at]}, after $((SECONDS / 60)) minutes" >&2
-        command=(rt lib)
-        if [ "${crates[at]}" = "$1" ]; then command=("${@:2}"); fi
-        if ! (cd "$top/crates/${crates[at]}" && "${command[@]}" < /dev/null) >> "$log" 2>&1; then
+        command=(rt lib "${rt_words[@]}")
+        if [ "${crates[at]}" = "$1" ]; then command=("$2" "$3" "${rt_words[@]}" "${@:4}"); fi
+        tell_progress "${crates[at]}" "$log" &
+        teller=$!
+        status=0
+        (cd "$top/crates/${crates[at]}" && "${command[@]}" < /dev/null) >> "$log" 2>&1 || status=$?
+        kill "$teller"
+        wait "$teller" 2> /dev/null || true
+        if [ "$status" -ne 0 ]; then
             echo "bg_relay: the build failed at ${crates[at]}; the end of what rt printed:" >&2
             tail -n 20 "$log" >&2
             exit 1

@@ -106,7 +106,7 @@ static void check_passing(void) {
 /* What two threads do with one party at once: each counts the calls that were let in, and those that were not. */
 struct user {
     bg_party *party;
-    unsigned done, busy, other;
+    unsigned rounds, done, busy, other;
     size_t length;
 };
 
@@ -116,11 +116,12 @@ static void count(struct user *user, bg_status status) {
     user->other += status != BG_OK && status != BG_BUSY;
 }
 
-/* Claims of the referee and its saves change the party; texts of it are whole, or there are none. */
+/* Claims of the referee and its saves change the party; texts of it are whole, or there are none. A thread that is
+ * stopped inside keeps the other one out for as long, so each goes on until one of its calls was let in. */
 static void *use_at_once(void *argument) {
     struct user *user = argument;
     uint8_t out[ROOM];
-    for (int round = 0; round < SHARED_ROUNDS; round++) {
+    for (; user->rounds < SHARED_ROUNDS || user->done == 0; user->rounds++) {
         uint32_t number = 0, slot = 0, save = 0;
         size_t needed = 0;
         bg_status status = bg_party_board(user->party, out, sizeof out, &needed);
@@ -146,7 +147,7 @@ static void check_shared(void) {
     for (int at = 0; at < 2; at++) {
         check(users[at].done > 0, "calls that were let in");
         check_number(users[at].other, 0, "other answers than BG_OK and BG_BUSY, and texts that are not whole");
-        check_number(users[at].done + users[at].busy, 3 * SHARED_ROUNDS, "each call was answered");
+        check_number(users[at].done + users[at].busy, 3 * users[at].rounds, "each call was answered");
     }
     printf("two threads on one party: %u calls let in, %u answered BG_BUSY\n", users[0].done + users[1].done,
            users[0].busy + users[1].busy);
@@ -210,6 +211,9 @@ int main(void) {
     check_at_once();
     check_passing();
     check_shared();
-    check_stack();
+    /* (valgrind takes the bytes of a stack that nothing uses any more for bytes that nobody may read) */
+    if (!getenv("WITHOUT_STACK")) {
+        check_stack();
+    }
     return checked();
 }

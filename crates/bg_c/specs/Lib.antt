@@ -24,4 +24,5 @@ pub mod Transcripts
 pub mod MatchFiles
 pub mod Pictures
 pub mod Ids
+pub mod Idle
 pub mod Checks

@@ -15,6 +15,7 @@ mod entry_lines;
 mod handle;
 mod ids;
 mod judge;
+mod laws;
 mod loose;
 mod match_files;
 mod outcomes;
@@ -38,6 +39,7 @@ ghost use Rattle.bg_c.specs.Status.{status_code, status_text};
 ghost use Rattle.bg_c.specs.declared.statuses.Status.{Status as AStatus};
 ghost use Rattle.bg_c.specs.declared.statuses.Status.TheVariants.{BadArgument};
 
+pub use laws::idle_referees_send_nothing;
 use rooms::put;
 use statuses::Status;
 
