@@ -78,7 +78,8 @@ place_for_debian() {
     if [ -n "$with_library" ]; then
         mkdir "$libraries"
         mv "$1"/lib/libbg_relay.* "$1/lib/pkgconfig" "$libraries/"
-        sed -i 's|/lib |/lib/x86_64-linux-gnu |' "$libraries/pkgconfig/bg_relay.pc"
+        # shellcheck disable=SC2016 # (pkg-config puts in the prefix)
+        sed -i 's|^libdir=.*|libdir=${prefix}/lib/x86_64-linux-gnu|' "$libraries/pkgconfig/bg_relay.pc"
     fi
     sed -i 's|/usr/local/bin/|/usr/bin/|' "$documents"/examples/service/*.service
     find "$1/share/man" -type f -exec gzip -9n {} +

@@ -44,8 +44,8 @@ impl Display for Players {
 /// Logs the progress of a party's match on the standard error (docs/OPERATING.md, "The log"), and
 /// nothing if it is quiet.
 #[derive(Drop)]
-pub struct Logbook<'a, R> {
-    rt: &'a R,
+pub struct Logbook<'a> {
+    rt: &'a HostRuntime,
     /// The party that logs.
     party: u8,
     /// The names of the players.
@@ -56,15 +56,15 @@ pub struct Logbook<'a, R> {
     results: Results,
 }
 
-impl<'a, R: Clock + Eprint> Logbook<'a, R> {
+impl<'a> Logbook<'a> {
     /// Logs that a party of a match begins with this record, and returns its logbook.
     pub fn begin(
-        rt: &'a R,
+        rt: &'a HostRuntime,
         is_quiet: bool,
         party: u8,
         file: &NamedMatch,
         record: &Record,
-    ) -> Logbook<'a, R> {
+    ) -> Logbook<'a> {
         let logbook = Logbook {
             rt,
             party,

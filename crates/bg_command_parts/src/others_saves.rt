@@ -6,8 +6,6 @@ use bg_processes::{Printable, SlotName};
 use bg_reports::Ending;
 use bg_wire::{REFEREE, SEAT_OF_O, SEAT_OF_X, Slot, party_of};
 use std::fmt::{Display, Formatter, Write};
-use std::fs::File;
-use std::rt::Files;
 use std::{fmt, fs};
 
 /// The message on the folder of a referee, which a seat can't have too.
@@ -30,10 +28,7 @@ impl Display for Owner {
 
 /// Refuses a folder for this player's seat that is the referee's, or has saves of the other player,
 /// and none of this one's.
-pub fn check_seat_folder<R>(rt: &R, folder: &str, player: Player) -> Result<(), Ending>
-where
-    R: Files<File = File> + Eprint + AllocGlobal,
-{
+pub fn check_seat_folder(rt: &HostRuntime, folder: &str, player: Player) -> Result<(), Ending> {
     let (own, other) = (party_of(player), party_of(player.opponent()));
     if has_saves(rt, folder, own) {
         return Ok(());
@@ -54,10 +49,7 @@ where
 }
 
 /// Returns whether a folder has a match file, as that of a referee has.
-fn has_match<R>(rt: &R, folder: &str) -> bool
-where
-    R: Files<File = File> + AllocGlobal,
-{
+fn has_match(rt: &HostRuntime, folder: &str) -> bool {
     let Ok(path) = format!(in rt.alloc(); "{folder}/match") else {
         return false;
     };
@@ -65,10 +57,7 @@ where
 }
 
 /// Returns whether one of the files of a party in a folder has a byte.
-fn has_saves<R>(rt: &R, folder: &str, party: u8) -> bool
-where
-    R: Files<File = File> + AllocGlobal,
-{
+fn has_saves(rt: &HostRuntime, folder: &str, party: u8) -> bool {
     [Slot::Zero, Slot::One].iter().any(|slot| has_bytes(
         rt,
         folder,
@@ -77,10 +66,7 @@ where
 }
 
 /// Returns whether a file in a folder has a byte.
-fn has_bytes<R>(rt: &R, folder: &str, name: SlotName) -> bool
-where
-    R: Files<File = File> + AllocGlobal,
-{
+fn has_bytes(rt: &HostRuntime, folder: &str, name: SlotName) -> bool {
     let Ok(path) = format!(in rt.alloc(); "{folder}/{name}") else {
         return false;
     };

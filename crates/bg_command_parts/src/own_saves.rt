@@ -11,7 +11,6 @@ use bg_world::{Outcome, RestoreCause, outcome_text};
 use std::fmt;
 use std::fmt::{Display, Formatter, Write};
 use std::fs::File;
-use std::rt::Files;
 
 /// A match, as a message describes that of a save or a match file.
 #[derive(Clone, Copy, PartialEq, Eq)]
@@ -83,10 +82,7 @@ pub struct OwnSaves<'a> {
 
 /// Reports why a party is down for good, in a line of its own. The line before that says what to
 /// do and, where its saves are why, whose saves they are.
-pub fn stopped<R>(rt: &R, saves: OwnSaves<'_>, outcome: &Outcome) -> Ending
-where
-    R: Files<File = File> + Eprint + AllocGlobal,
-{
+pub fn stopped(rt: &HostRuntime, saves: OwnSaves<'_>, outcome: &Outcome) -> Ending {
     say_remedy(rt, saves, outcome);
     let line = outcome_text(outcome);
     failed_barely(rt, line.as_str())
@@ -94,10 +90,7 @@ where
 
 /// Reports what to do of a party that is down for good, and what is wrong with its saves, where
 /// they are why. Of a file that can't be read that has been reported.
-fn say_remedy<R>(rt: &R, saves: OwnSaves<'_>, outcome: &Outcome)
-where
-    R: Files<File = File> + Eprint + AllocGlobal,
-{
+fn say_remedy(rt: &HostRuntime, saves: OwnSaves<'_>, outcome: &Outcome) {
     let (folder, owner) = (Printable(saves.folder), Owner(saves.party));
     match outcome {
         Outcome::RestoreFault(RestoreCause::Damaged) => say(
@@ -131,7 +124,7 @@ where
 }
 
 /// Reports that a folder has a save that isn't of this match, or isn't of this party.
-fn say_other_match(rt: &impl Eprint, saves: OwnSaves<'_>, saved: &Saved) {
+fn say_other_match(rt: &HostRuntime, saves: OwnSaves<'_>, saved: &Saved) {
     let (folder, whose, asked) = (Printable(saves.folder), Owner(saved.party), saves.asked);
     let (theirs, own) = (MatchWords::of_save(saved), asked.words());
     let remedy = Remedy::of(saves, theirs);
@@ -187,10 +180,7 @@ impl Display for Remedy {
 }
 
 /// Returns the latest save of a party in a folder; `None` where neither file holds a save.
-fn newest_save<R>(rt: &R, folder: &str, party: u8) -> Option<Saved>
-where
-    R: Files<File = File> + AllocGlobal,
-{
+fn newest_save(rt: &HostRuntime, folder: &str, party: u8) -> Option<Saved> {
     let zero = save_in(rt, folder, party, Slot::Zero);
     let one = save_in(rt, folder, party, Slot::One);
     match (zero, one) {
@@ -201,10 +191,7 @@ where
 }
 
 /// Reads a party's file in a folder, if it holds a save.
-fn save_in<R>(rt: &R, folder: &str, party: u8, slot: Slot) -> Option<Saved>
-where
-    R: Files<File = File> + AllocGlobal,
-{
+fn save_in(rt: &HostRuntime, folder: &str, party: u8, slot: Slot) -> Option<Saved> {
     let name = SlotName { party, slot };
     let path = format!(in rt.alloc(); "{folder}/{name}").ok()?;
     load(rt.alloc(), &read_saved(rt, path.as_str()).ok()?).ok()

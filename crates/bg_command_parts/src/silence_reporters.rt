@@ -4,8 +4,6 @@ use crate::silences::Silence;
 use bg_console::say;
 use bg_processes::{Liveness, LivenessChange, MatchFile, PartySocket};
 use bg_wire::REFEREE;
-use std::fs::File;
-use std::rt::Files;
 use std::time::Clock;
 
 /// The message to a log where a referee that was heard is silent.
@@ -29,20 +27,17 @@ pub enum Audience {
 /// Reports on the standard error that the referee of a match isn't heard, and that it is heard
 /// again (docs/OPERATING.md, "Messages").
 #[derive(Drop)]
-pub struct SilenceReporter<'a, R> {
-    rt: &'a R,
+pub struct SilenceReporter<'a> {
+    rt: &'a HostRuntime,
     table: MatchFile,
     audience: Audience,
     /// Whether a silence was reported that has not ended.
     is_told: bool,
 }
 
-impl<'a, R> SilenceReporter<'a, R>
-where
-    R: Files<File = File> + Clock + Eprint + AllocGlobal,
-{
+impl<'a> SilenceReporter<'a> {
     /// Creates a reporter on the referee of the match of this file, which has reported nothing yet.
-    pub fn new(rt: &'a R, table: MatchFile, audience: Audience) -> SilenceReporter<'a, R> {
+    pub fn new(rt: &'a HostRuntime, table: MatchFile, audience: Audience) -> SilenceReporter<'a> {
         SilenceReporter {
             rt,
             table,

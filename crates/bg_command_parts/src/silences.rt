@@ -2,8 +2,6 @@
 
 use bg_processes::MatchFile;
 use std::fmt::{Display, Formatter, Write};
-use std::fs::File;
-use std::rt::Files;
 use std::{fmt, fs};
 
 /// The file of the system that lists the UDP sockets of the machine, one per line behind a line of
@@ -24,10 +22,7 @@ pub enum Silence {
 
 impl Silence {
     /// Returns why nothing may be heard of the referee of a match.
-    pub fn of<R>(rt: &R, table: &MatchFile) -> Silence
-    where
-        R: Files<File = File> + AllocGlobal,
-    {
+    pub fn of(rt: &HostRuntime, table: &MatchFile) -> Silence {
         match fs::read_to_string(rt, SOCKETS) {
             Ok(listed) if has_port(listed.as_str(), table.port) => {
                 Silence::NoAnswer(table.port, table.id)

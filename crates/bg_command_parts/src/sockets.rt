@@ -6,8 +6,6 @@ use bg_reports::Ending;
 use bg_wire::{REFEREE, SEAT_OF_O, SEAT_OF_X};
 use std::io;
 use std::io::ErrorKind;
-use std::net::Net;
-use std::time::Clock;
 
 /// The number of the last party, and so the number of ports that a match has above its own.
 const LAST_PARTY: u32 = 255;
@@ -22,13 +20,13 @@ const OPEN_FILES: &str = "it needs a loopback address, and room for open files (
 
 /// Opens the socket of a party of the match that has this port, with its keys. Later failures are
 /// noted in `failures`. Ends with `Failed` where the port is taken, or there is no socket.
-pub fn socket_of<'a, R: Net + Clock + Eprint>(
-    rt: &'a R,
+pub fn socket_of<'a>(
+    rt: &'a HostRuntime,
     port: u16,
     party: u8,
     keys: Keyring,
     failures: &'a Failures,
-) -> Result<PartySocket<'a, R>, Ending> {
+) -> Result<PartySocket<'a, HostRuntime>, Ending> {
     match PartySocket::bind(rt, rt, port, party, keys, failures) {
         Ok(socket) => Ok(socket),
         Err(error) if error.kind() == ErrorKind::AddrInUse => {
@@ -57,7 +55,7 @@ fn holder_of(party: u8) -> &'static str {
 }
 
 /// Reports that the system gives a party no socket, and why.
-pub fn no_socket(rt: &impl Eprint, party: u8, error: &io::Error) -> Ending {
+pub fn no_socket(rt: &HostRuntime, party: u8, error: &io::Error) -> Ending {
     failed(
         rt,
         format_args!("no socket for party {party} on 127.0.0.1: {error}; {OPEN_FILES}"),

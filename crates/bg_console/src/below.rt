@@ -2,9 +2,7 @@
 
 use crate::paths::{not_memory, path_in, without_slashes};
 use std::alloc::Global;
-use std::fs::File;
 use std::io::ErrorKind;
-use std::rt::Files;
 use std::{fs, io};
 
 /// Number of levels that are searched below a folder that is named.
@@ -37,10 +35,7 @@ pub struct MatchBelow {
 ///
 /// # Errors
 /// `OutOfMemory` alone.
-pub fn matches_below<R>(rt: &R, folder: &str) -> io::Result<Vec<MatchBelow>>
-where
-    R: Files<File = File> + AllocGlobal,
-{
+pub fn matches_below(rt: &HostRuntime, folder: &str) -> io::Result<Vec<MatchBelow>> {
     let mut found = Vec::new(rt.alloc());
     let mut level = Vec::new(rt.alloc());
     level.push(String::from_str(rt.alloc(), without_slashes(folder))?)?;
@@ -56,15 +51,12 @@ where
 
 /// Appends what is found in these folders. Returns the folders in them, where these are to be
 /// searched.
-fn search_level<R>(
-    rt: &R,
+fn search_level(
+    rt: &HostRuntime,
     level: &[String],
     is_searched: bool,
     found: &mut Vec<MatchBelow>,
-) -> io::Result<Vec<String>>
-where
-    R: Files<File = File> + AllocGlobal,
-{
+) -> io::Result<Vec<String>> {
     let mut below = Vec::new(rt.alloc());
     for path in level {
         search(rt, path.as_str(), is_searched, found, &mut below)?;
@@ -74,16 +66,13 @@ where
 
 /// Appends what is found in a folder. Appends the folders in it to `below` where they are to be
 /// searched.
-fn search<R>(
-    rt: &R,
+fn search(
+    rt: &HostRuntime,
     path: &str,
     is_searched: bool,
     found: &mut Vec<MatchBelow>,
     below: &mut Vec<String>,
-) -> io::Result<()>
-where
-    R: Files<File = File> + AllocGlobal,
-{
+) -> io::Result<()> {
     let finding = finding_in(rt, path)?;
     let is_searched = is_searched && matches!(finding, None | Some(Finding::WatchKey));
     put(rt.alloc(), found, path, finding)?;
@@ -111,10 +100,7 @@ fn put(
 }
 
 /// Returns what is found in a folder.
-fn finding_in<R>(rt: &R, folder: &str) -> io::Result<Option<Finding>>
-where
-    R: Files<File = File> + AllocGlobal,
-{
+fn finding_in(rt: &HostRuntime, folder: &str) -> io::Result<Option<Finding>> {
     match has_file(rt, folder, "match")? {
         Ok(true) => return Ok(Some(Finding::Match)),
         Ok(false) => {}
@@ -127,10 +113,7 @@ where
 }
 
 /// Returns whether a folder has a file with this name, or why that can't be seen.
-fn has_file<R>(rt: &R, folder: &str, name: &str) -> io::Result<io::Result<bool>>
-where
-    R: Files<File = File> + AllocGlobal,
-{
+fn has_file(rt: &HostRuntime, folder: &str, name: &str) -> io::Result<io::Result<bool>> {
     let path = path_in(rt.alloc(), folder, name)?;
     Ok(match fs::metadata(rt, path.as_str()) {
         Ok(found) => Ok(found.is_file()),
@@ -142,10 +125,7 @@ where
 }
 
 /// Appends the folders in a folder to others, except those whose names are not text.
-fn add_folders<R>(rt: &R, path: &str, folders: &mut Vec<String>) -> io::Result<()>
-where
-    R: Files<File = File> + AllocGlobal,
-{
+fn add_folders(rt: &HostRuntime, path: &str, folders: &mut Vec<String>) -> io::Result<()> {
     for found in fs::read_dir(&rt, path)? {
         let found = match found {
             Ok(found) => found,

@@ -3,10 +3,8 @@
 use crate::messages::no_memory;
 use bg_reports::Ending;
 use bg_system::MatchFile;
-use std::fs::File;
 use std::os::unix::fs::MetadataExt;
 use std::path::Path;
-use std::rt::Files;
 use std::{fs, io};
 
 /// A match in a folder beside another one.
@@ -19,10 +17,7 @@ pub struct MatchBeside {
 
 /// Returns the matches in the folders beside a folder, its own among them, as far as they can be
 /// read. Ends with `Failed` where there is no memory for them.
-pub fn matches_beside<R>(rt: &R, folder: &str) -> Result<Vec<MatchBeside>, Ending>
-where
-    R: Files<File = File> + Eprint + AllocGlobal,
-{
+pub fn matches_beside(rt: &HostRuntime, folder: &str) -> Result<Vec<MatchBeside>, Ending> {
     match found_beside(rt, folder) {
         Ok(found) => Ok(found),
         Err(error) if error.kind() == io::ErrorKind::OutOfMemory => Err(no_memory(rt)),
@@ -30,10 +25,7 @@ where
     }
 }
 
-fn found_beside<R>(rt: &R, folder: &str) -> io::Result<Vec<MatchBeside>>
-where
-    R: Files<File = File> + AllocGlobal,
-{
+fn found_beside(rt: &HostRuntime, folder: &str) -> io::Result<Vec<MatchBeside>> {
     let above = folder_above(rt, folder)?;
     let listed = if above.as_str().is_empty() {
         "."
@@ -60,10 +52,7 @@ where
 /// Returns the parent of a folder, which need not exist yet; the empty path is the current folder
 /// of the process. The parent is taken from the path where that names it. Otherwise, as for `.` and
 /// for links, the system finds it.
-fn folder_above<R>(rt: &R, folder: &str) -> io::Result<String>
-where
-    R: Files<File = File> + AllocGlobal,
-{
+fn folder_above(rt: &HostRuntime, folder: &str) -> io::Result<String> {
     if let Some(named) = Path::new(folder).parent() {
         let above = format!(in rt.alloc(); "{folder}/..")?;
         if fs::metadata(rt, folder).is_err() || is_one_folder(rt, named.as_str(), above.as_str()) {
@@ -77,7 +66,7 @@ where
 
 /// Returns whether two paths lead to one folder. An empty one leads to the current folder of the
 /// process.
-fn is_one_folder(rt: &impl Files<File = File>, one: &str, other: &str) -> bool {
+fn is_one_folder(rt: &HostRuntime, one: &str, other: &str) -> bool {
     let one = if one.is_empty() { "." } else { one };
     match (fs::metadata(rt, one), fs::metadata(rt, other)) {
         (Ok(one), Ok(other)) => (one.dev(), one.ino()) == (other.dev(), other.ino()),

@@ -6,17 +6,12 @@ use bg_reports::Ending;
 use bg_system::{KeyFile, KeyFiles, MatchFile, Printable, name_of_key_file};
 use bg_wire::{FIRST_WATCHER, SEAT_OF_O, SEAT_OF_X};
 use std::fs;
-use std::fs::File;
-use std::rt::Files;
 
 /// What to do with a key file of another match.
 const OTHER_MATCH: &str = "put the file of this match in its place, or name another folder";
 
 /// Returns whether a referee's folder has a secret that its keys are derived from.
-pub fn has_key_secret<R>(rt: &R, folder: &str) -> Result<bool, Ending>
-where
-    R: Files<File = File> + Eprint + AllocGlobal,
-{
+pub fn has_key_secret(rt: &HostRuntime, folder: &str) -> Result<bool, Ending> {
     let Ok(path) = format!(in rt.alloc(); "{folder}/key-secret") else {
         return Err(no_memory(rt));
     };
@@ -26,10 +21,11 @@ where
 /// Returns the key files in a referee's folder without a secret of keys; `None` where it has no key
 /// files at all. Ends with `WrongArguments` where some are missing, or one is another party's or
 /// another match's, and with `Failed` where one can't be read.
-pub fn key_files_of<R>(rt: &R, folder: &str, table: &MatchFile) -> Result<Option<KeyFiles>, Ending>
-where
-    R: Files<File = File> + Eprint + AllocGlobal,
-{
+pub fn key_files_of(
+    rt: &HostRuntime,
+    folder: &str,
+    table: &MatchFile,
+) -> Result<Option<KeyFiles>, Ending> {
     let x = found_in(rt, folder, table, SEAT_OF_X)?;
     let o = found_in(rt, folder, table, SEAT_OF_O)?;
     let watchers = found_in(rt, folder, table, FIRST_WATCHER)?;
@@ -45,10 +41,7 @@ where
 /// Returns the key files of a match in a folder to which they were all copied. Ends with
 /// `WrongArguments` where one is another party's or another match's, and with `Failed` where one
 /// can't be read.
-pub fn key_files_in<R>(rt: &R, folder: &str, table: &MatchFile) -> Result<KeyFiles, Ending>
-where
-    R: Files<File = File> + Eprint + AllocGlobal,
-{
+pub fn key_files_in(rt: &HostRuntime, folder: &str, table: &MatchFile) -> Result<KeyFiles, Ending> {
     Ok(KeyFiles {
         x: key_file_in(rt, folder, table, SEAT_OF_X)?,
         o: key_file_in(rt, folder, table, SEAT_OF_O)?,
@@ -57,10 +50,12 @@ where
 }
 
 /// Returns the key file of a party of this match in a folder.
-fn key_file_in<R>(rt: &R, folder: &str, table: &MatchFile, party: u8) -> Result<KeyFile, Ending>
-where
-    R: Files<File = File> + Eprint + AllocGlobal,
-{
+fn key_file_in(
+    rt: &HostRuntime,
+    folder: &str,
+    table: &MatchFile,
+    party: u8,
+) -> Result<KeyFile, Ending> {
     let Ok(path) = format!(in rt.alloc(); "{folder}/{}", name_of_key_file(party)) else {
         return Err(no_memory(rt));
     };
@@ -78,15 +73,12 @@ where
 }
 
 /// Returns the key file of a party of this match in a folder; `None` where it is missing.
-fn found_in<R>(
-    rt: &R,
+fn found_in(
+    rt: &HostRuntime,
     folder: &str,
     table: &MatchFile,
     party: u8,
-) -> Result<Option<KeyFile>, Ending>
-where
-    R: Files<File = File> + Eprint + AllocGlobal,
-{
+) -> Result<Option<KeyFile>, Ending> {
     let Ok(path) = format!(in rt.alloc(); "{folder}/{}", name_of_key_file(party)) else {
         return Err(no_memory(rt));
     };
@@ -97,7 +89,7 @@ where
 }
 
 /// Reports that a folder without a secret of keys lacks the key file of a party, and what to do.
-fn lacks(rt: &impl Eprint, folder: &str, party: u8) -> Ending {
+fn lacks(rt: &HostRuntime, folder: &str, party: u8) -> Ending {
     let (shown, name) = (Printable(folder), name_of_key_file(party));
     wrong(
         rt,

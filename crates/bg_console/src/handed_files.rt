@@ -5,8 +5,6 @@ use bg_board::Player;
 use bg_reports::Ending;
 use bg_system::{KeyFile, MatchFile, NamedMatch, Printable, name_of_key_file};
 use bg_wire::{SEAT_OF_O, SEAT_OF_X, party_of};
-use std::fs::File;
-use std::rt::Files;
 use std::{fs, io};
 
 /// The message on a path without a character.
@@ -42,19 +40,12 @@ const A_FOLDER: &str =
 
 /// Reads the match file at a path in a referee's folder. Ends with `WrongArguments` where it isn't
 /// one, and with `Failed` where it can't be read.
-pub fn match_of(
-    rt: &(impl Files<File = File> + Eprint + AllocGlobal),
-    path: &str,
-) -> Result<NamedMatch, Ending> {
+pub fn match_of(rt: &HostRuntime, path: &str) -> Result<NamedMatch, Ending> {
     match_or(rt, path, OF_REFEREE)
 }
 
 /// Reads the match file at a path. Reports this remedy if it can't be read.
-fn match_or(
-    rt: &(impl Files<File = File> + Eprint + AllocGlobal),
-    path: &str,
-    remedy: &str,
-) -> Result<NamedMatch, Ending> {
+fn match_or(rt: &HostRuntime, path: &str, remedy: &str) -> Result<NamedMatch, Ending> {
     match NamedMatch::read(rt, path) {
         Ok(Some(file)) => Ok(file),
         Err(_) if path.is_empty() => Err(wrong(rt, NO_NAME)),
@@ -65,11 +56,7 @@ fn match_or(
 
 /// Reads the key file of a party at a path: 1, 2, or 3 for all watchers. Ends with `WrongArguments`
 /// where it is another party's or isn't one, and with `Failed` where it can't be read.
-pub fn key_file_of(
-    rt: &(impl Files<File = File> + Eprint + AllocGlobal),
-    path: &str,
-    party: u8,
-) -> Result<KeyFile, Ending> {
+pub fn key_file_of(rt: &HostRuntime, path: &str, party: u8) -> Result<KeyFile, Ending> {
     match KeyFile::read(rt, path) {
         Ok(Some(file)) if file.party == party => Ok(file),
         Ok(Some(file)) => {
@@ -89,7 +76,7 @@ pub fn key_file_of(
 /// Returns its player too. Ends with `WrongArguments` where it is another party's or isn't one, and
 /// with `Failed` where it can't be read.
 pub fn seat_key_file_of(
-    rt: &(impl Files<File = File> + Eprint + AllocGlobal),
+    rt: &HostRuntime,
     path: &str,
     player: Option<Player>,
 ) -> Result<(Player, KeyFile), Ending> {
@@ -109,10 +96,7 @@ pub fn seat_key_file_of(
 
 /// Reads the match, with its names, from any key file or match file at a path. Ends with
 /// `WrongArguments` where it is neither, and with `Failed` where it can't be read.
-pub fn table_of(
-    rt: &(impl Files<File = File> + Eprint + AllocGlobal),
-    path: &str,
-) -> Result<NamedMatch, Ending> {
+pub fn table_of(rt: &HostRuntime, path: &str) -> Result<NamedMatch, Ending> {
     match KeyFile::read(rt, path) {
         Ok(Some(file)) => Ok(file.named_match()),
         _ => match_or(rt, path, HANDED),
@@ -120,7 +104,7 @@ pub fn table_of(
 }
 
 /// Reports that a key file can't be read, and why; or that it is a folder or has no name.
-fn unread_key(rt: &(impl Files<File = File> + Eprint), path: &str, error: &io::Error) -> Ending {
+fn unread_key(rt: &HostRuntime, path: &str, error: &io::Error) -> Ending {
     if path.is_empty() {
         return wrong(rt, NO_NAME);
     }
@@ -141,7 +125,7 @@ fn holder(party: u8) -> &'static str {
 
 /// Reports what is wrong with a file that is not a key file. For a match file without a key, such
 /// as older programs made and the referee has, it says so.
-fn no_key_file(rt: &(impl Files<File = File> + Eprint + AllocGlobal), path: &str) -> Ending {
+fn no_key_file(rt: &HostRuntime, path: &str) -> Ending {
     if let Ok(Some(_)) = MatchFile::read(rt, path) {
         return wrong_at(
             rt,

@@ -3,18 +3,13 @@
 use crate::messages::{wrong_at, wrong_for};
 use bg_reports::Ending;
 use std::fs;
-use std::fs::File;
 use std::io::ErrorKind;
-use std::rt::Files;
 
 /// The message on a folder that can't be used.
 const NOT_USED: &str = " can't be used: name another folder, or give the right to enter it";
 
 /// Refuses what isn't a folder, and says what to do if it is missing.
-pub fn check_out_folder(
-    rt: &(impl Files<File = File> + Eprint),
-    folder: &str,
-) -> Result<(), Ending> {
+pub fn check_out_folder(rt: &HostRuntime, folder: &str) -> Result<(), Ending> {
     match fs::metadata(rt, folder) {
         Ok(found) if found.is_dir() => Ok(()),
         Ok(_) => Err(wrong_at(rt, folder, " is no folder: name another one")),

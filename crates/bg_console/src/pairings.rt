@@ -85,10 +85,7 @@ pub fn page_words<'a>(title: &'a str, names: &'a Names) -> PageWords<'a> {
 
 /// Returns the title of a page: the one that is given, else the names of both players, else the
 /// usual one. Ends with `Failed` where there is no memory for it.
-pub fn title_of<R>(rt: &R, given: Option<&str>, names: &Names) -> Result<String, Ending>
-where
-    R: Eprint + AllocGlobal,
-{
+pub fn title_of(rt: &HostRuntime, given: Option<&str>, names: &Names) -> Result<String, Ending> {
     if let Some(title) = given {
         return allocated(rt, String::from_str(rt.alloc(), title));
     }

@@ -7,10 +7,9 @@ use bg_reports::Ending;
 use bg_system::publish;
 use bg_text::{board_text, transcript_text};
 use std::alloc::{AllocError, Global};
-use std::fs::{File, Metadata};
+use std::fs::Metadata;
 use std::os::unix::fs::MetadataExt;
 use std::path::Path;
-use std::rt::Files;
 use std::{fs, io};
 
 /// Number of ticks between two writes of the files, at least, since each write has the whole
@@ -38,7 +37,7 @@ pub struct Outputs<'a> {
 
 /// Returns whether two paths name one file, which may be missing. They are the same, or have the
 /// same name in the same folder.
-pub fn is_one_file(rt: &impl Files<File = File>, one: &str, other: &str) -> bool {
+pub fn is_one_file(rt: &HostRuntime, one: &str, other: &str) -> bool {
     if one == other {
         return true;
     }
@@ -54,7 +53,7 @@ pub fn is_one_file(rt: &impl Files<File = File>, one: &str, other: &str) -> bool
 }
 
 /// Returns the metadata of the folder of a path's file.
-fn folder_of(rt: &impl Files<File = File>, path: Path<'_>) -> io::Result<Metadata> {
+fn folder_of(rt: &HostRuntime, path: Path<'_>) -> io::Result<Metadata> {
     match path.parent() {
         Some(folder) if !folder.as_os_str().is_empty() => fs::metadata(rt, folder),
         _ => fs::metadata(rt, "."),
@@ -92,17 +91,14 @@ impl<'a> Published<'a> {
     /// Rewrites the files where they are old, and enough time has passed. It is called after each
     /// round, which brought news or not, and in which a tick was due or not. Until the referee was
     /// heard, an existing file is left as it is, as it may have more.
-    pub fn after_round<R>(
+    pub fn after_round(
         &mut self,
-        rt: &R,
+        rt: &HostRuntime,
         record: &Record,
         news: bool,
         tick: bool,
         is_heard: bool,
-    ) -> Result<(), Ending>
-    where
-        R: Files<File = File> + Eprint + AllocGlobal,
-    {
+    ) -> Result<(), Ending> {
         self.is_old = self.is_old || news;
         if !tick {
             return Ok(());
@@ -116,10 +112,12 @@ impl<'a> Published<'a> {
 
     /// Writes the record to the requested files, where they lack some of it. Where the referee was
     /// not heard, it writes only those that don't exist.
-    pub fn write<R>(&mut self, rt: &R, record: &Record, is_heard: bool) -> Result<(), Ending>
-    where
-        R: Files<File = File> + Eprint + AllocGlobal,
-    {
+    pub fn write(
+        &mut self,
+        rt: &HostRuntime,
+        record: &Record,
+        is_heard: bool,
+    ) -> Result<(), Ending> {
         if !self.is_old {
             return Ok(());
         }
@@ -150,10 +148,13 @@ impl<'a> Published<'a> {
 
     /// Writes a text to a file. Reports where it can't, except for files that failed the last time
     /// too. Then the command ends, unless `goes_on` is set.
-    fn put<R>(&mut self, rt: &R, path: &str, text: &[u8], was_failing: bool) -> Result<(), Ending>
-    where
-        R: Files<File = File> + Eprint + AllocGlobal,
-    {
+    fn put(
+        &mut self,
+        rt: &HostRuntime,
+        path: &str,
+        text: &[u8],
+        was_failing: bool,
+    ) -> Result<(), Ending> {
         let Err(error) = publish(rt, path, text) else {
             return Ok(());
         };
@@ -187,11 +188,7 @@ impl<'a> Published<'a> {
 }
 
 /// Returns the path of a file that is kept, unless the file exists and the referee was not heard.
-fn writable<'a>(
-    rt: &impl Files<File = File>,
-    path: Option<&'a str>,
-    is_heard: bool,
-) -> Option<&'a str> {
+fn writable<'a>(rt: &HostRuntime, path: Option<&'a str>, is_heard: bool) -> Option<&'a str> {
     let path = path?;
     if is_heard || fs::metadata(rt, path).is_err() {
         Some(path)

@@ -4,13 +4,10 @@ use crate::messages::says::say_of;
 use crate::messages::{failed, failed_or, failed_with, no_memory, wrong, wrong_at, wrong_for};
 use bg_reports::Ending;
 use bg_system::{FolderLock, Printable, Ticking, Waiting};
-use std::fs::{DirBuilder, File, TryLockError};
+use std::fs::{DirBuilder, TryLockError};
 use std::io::ErrorKind;
-use std::net::Net;
 use std::os::fd::RawFd;
 use std::os::unix::fs::{DirBuilderExt, MetadataExt};
-use std::rt::Files;
-use std::time::Clock;
 use std::{fs, io};
 
 /// The messages on a folder that can't be locked, made or used, with what to do.
@@ -27,10 +24,7 @@ const MORE_FILES: &str = "; allow it more open files (`ulimit -n`), and start it
 
 /// Locks a folder, and returns the lock. Ends with `Failed` where another process plays over it, or
 /// it can't be locked.
-pub fn lock_of(
-    rt: &(impl Files<File = File> + Eprint),
-    folder: &str,
-) -> Result<FolderLock, Ending> {
+pub fn lock_of(rt: &HostRuntime, folder: &str) -> Result<FolderLock, Ending> {
     match FolderLock::take(rt, folder) {
         Ok(lock) => Ok(lock),
         Err(TryLockError::WouldBlock) => {
@@ -54,10 +48,7 @@ const OWNER_ALONE: u32 = 0o700;
 /// Creates a folder for its owner alone where there is none, with its parents, and locks it.
 /// Returns the lock. Warns where an existing folder is open to others. Ends with `WrongArguments`
 /// where there is none and none can be created, and otherwise as [`lock_of`].
-pub fn own_folder(
-    rt: &(impl Files<File = File> + Eprint),
-    folder: &str,
-) -> Result<FolderLock, Ending> {
+pub fn own_folder(rt: &HostRuntime, folder: &str) -> Result<FolderLock, Ending> {
     let made = DirBuilder::new()
         .recursive(true)
         .mode(OWNER_ALONE)
@@ -78,7 +69,7 @@ pub fn own_folder(
 const OTHERS: u32 = 0o077;
 
 /// Warns where a folder is open to others than its owner.
-pub fn tell_if_open(rt: &(impl Files<File = File> + Eprint), folder: &str) {
+pub fn tell_if_open(rt: &HostRuntime, folder: &str) {
     if let Ok(found) = fs::metadata(rt, folder) {
         if found.mode() & OTHERS != 0 {
             say_of(rt, folder, " is open to other users: `chmod 700` closes it");
@@ -88,11 +79,7 @@ pub fn tell_if_open(rt: &(impl Files<File = File> + Eprint), folder: &str) {
 
 /// Refuses what isn't a folder, or isn't there, with these words behind its name. Ends with
 /// `WrongArguments`, also where nobody can look at it.
-pub fn check_folder(
-    rt: &(impl Files<File = File> + Eprint),
-    folder: &str,
-    words: &str,
-) -> Result<(), Ending> {
+pub fn check_folder(rt: &HostRuntime, folder: &str, words: &str) -> Result<(), Ending> {
     if folder.is_empty() {
         return Err(wrong(rt, "the name of a folder is empty"));
     }
@@ -111,10 +98,7 @@ const TRIAL: &str = ".bg_relay-trial";
 
 /// Refuses a folder in which the process may create nothing, as nothing could be saved there. Ends
 /// with `WrongArguments`.
-pub fn check_writable(
-    rt: &(impl Files<File = File> + Eprint + AllocGlobal),
-    folder: &str,
-) -> Result<(), Ending> {
+pub fn check_writable(rt: &HostRuntime, folder: &str) -> Result<(), Ending> {
     let Ok(trial) = format!(in rt.alloc(); "{folder}/{TRIAL}") else {
         return Err(no_memory(rt));
     };
@@ -145,7 +129,7 @@ pub fn check_writable(
 /// Returns the wait for a party's socket, and for standard input if that is wanted, and the party's
 /// ticks.
 pub fn waiting_for(
-    rt: &(impl Net + Clock + Eprint + AllocGlobal),
+    rt: &HostRuntime,
     socket: RawFd,
     with_input: bool,
 ) -> Result<(Waiting, Ticking), Ending> {
@@ -155,7 +139,7 @@ pub fn waiting_for(
 }
 
 /// Returns the result of waiting. Reports where the socket can't be waited for.
-pub fn waited<T>(rt: &impl Eprint, attempt: io::Result<T>) -> Result<T, Ending> {
+pub fn waited<T>(rt: &HostRuntime, attempt: io::Result<T>) -> Result<T, Ending> {
     match attempt {
         Ok(next) => Ok(next),
         Err(error) => Err(failed_or(rt, NOT_WAITED, &error, MORE_FILES)),

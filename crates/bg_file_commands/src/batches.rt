@@ -14,7 +14,6 @@ use bg_system::publish;
 use std::fs;
 use std::fs::File;
 use std::rt::Files;
-use std::time::Clock;
 
 /// The conversion of each file.
 #[derive(Clone, Copy)]
@@ -36,16 +35,13 @@ impl<'a> Conversion<'a> {
 
     /// Returns what is made of a file with this name and these bytes, and of the headers beside it
     /// if `has_headers` is set. Reports why where it is refused.
-    fn text<R>(
+    fn text(
         &self,
-        rt: &R,
+        rt: &HostRuntime,
         name: &str,
         bytes: &[u8],
         has_headers: bool,
-    ) -> Result<Vec<u8>, Ending>
-    where
-        R: Files<File = File> + Eprint + AllocGlobal,
-    {
+    ) -> Result<Vec<u8>, Ending> {
         match self {
             Conversion::Import(rules) => match_file_text(rt, name, *rules, bytes),
             Conversion::Export(headers) if has_headers => {
@@ -65,15 +61,12 @@ impl<'a> Conversion<'a> {
 
 /// Converts files into a folder, each by itself. Reports those that are refused, and the numbers of
 /// all.
-pub(crate) fn convert_all<R>(
-    rt: &R,
+pub(crate) fn convert_all(
+    rt: &HostRuntime,
     conversion: Conversion<'_>,
     batch: BatchOptions<'_, '_>,
     progress: Progress,
-) -> Result<Ending, Ending>
-where
-    R: Files<File = File> + Clock + Eprint + AllocGlobal,
-{
+) -> Result<Ending, Ending> {
     let mut progress = progress;
     check_out_folder(rt, batch.folder)?;
     check_targets(rt, &batch, conversion.endings())?;
@@ -98,15 +91,12 @@ fn count(tally: &mut Tally, done: Result<(), Ending>) {
 }
 
 /// Converts a file. Reports why where it isn't converted.
-fn convert<R>(
-    rt: &R,
+fn convert(
+    rt: &HostRuntime,
     conversion: &Conversion<'_>,
     batch: &BatchOptions<'_, '_>,
     name: &str,
-) -> Result<(), Ending>
-where
-    R: Files<File = File> + Eprint + AllocGlobal,
-{
+) -> Result<(), Ending> {
     let bytes = bytes_of(rt, name)?;
     write_one(rt, conversion, batch, name, &bytes)?;
     if batch.has_headers && conversion.is_import() {
@@ -116,16 +106,13 @@ where
 }
 
 /// Writes what is made of a file with this name and these bytes.
-fn write_one<R>(
-    rt: &R,
+fn write_one(
+    rt: &HostRuntime,
     conversion: &Conversion<'_>,
     batch: &BatchOptions<'_, '_>,
     name: &str,
     bytes: &[u8],
-) -> Result<(), Ending>
-where
-    R: Files<File = File> + Eprint + AllocGlobal,
-{
+) -> Result<(), Ending> {
     let text = conversion.text(rt, name, bytes, batch.has_headers)?;
     let target = target_of(rt.alloc(), batch.folder, name, conversion.endings());
     let target = allocated(rt, target)?;
@@ -133,10 +120,7 @@ where
 }
 
 /// Returns the bytes of a file with this name. Reports why where it can't be read.
-fn bytes_of<R>(rt: &R, name: &str) -> Result<Vec<u8>, Ending>
-where
-    R: Files<File = File> + Eprint + AllocGlobal,
-{
+fn bytes_of(rt: &HostRuntime, name: &str) -> Result<Vec<u8>, Ending> {
     if name.is_empty() {
         return Err(wrong(rt, "the name of a file is empty"));
     }
@@ -151,10 +135,12 @@ where
 }
 
 /// Writes a file, whole. Refuses one that exists, unless it may be overwritten.
-pub(crate) fn put_file<R>(rt: &R, path: &str, bytes: &[u8], is_forced: bool) -> Result<(), Ending>
-where
-    R: Files<File = File> + Eprint + AllocGlobal,
-{
+pub(crate) fn put_file(
+    rt: &HostRuntime,
+    path: &str,
+    bytes: &[u8],
+    is_forced: bool,
+) -> Result<(), Ending> {
     if !is_forced && fs::metadata(rt, path).is_ok() {
         return Err(wrong_at(rt, path, " exists: --force overwrites it"));
     }

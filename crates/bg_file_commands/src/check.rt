@@ -7,20 +7,15 @@ use bg_console::{Progress, wrong};
 use bg_options::CheckOptions;
 use bg_reports::Ending;
 use std::fs::File;
-use std::rt::Files;
-use std::time::Clock;
 
 /// Judges the files that the options name. `columns` is the width of the standard output, if it is
 /// a screen.
-pub fn run<R>(
-    rt: &R,
+pub fn run(
+    rt: &HostRuntime,
     options: CheckOptions<'_, '_>,
     columns: Option<usize>,
     progress: Progress,
-) -> Result<Ending, Ending>
-where
-    R: Input + Files<File = File> + Clock + Print + Eprint + AllocGlobal,
-{
+) -> Result<Ending, Ending> {
     check_names(rt, options.files, options.list)?;
     let CheckOptions {
         is_quiet,
@@ -36,15 +31,12 @@ where
 }
 
 /// Judges files, and those in folders if `is_recursive` is set.
-fn check_files<R>(
-    rt: &R,
-    checker: &mut Checker<'_, R>,
+fn check_files(
+    rt: &HostRuntime,
+    checker: &mut Checker<'_>,
     files: &[&str],
     is_recursive: bool,
-) -> Result<(), Ending>
-where
-    R: Input + Files<File = File> + Clock + Print + Eprint + AllocGlobal,
-{
+) -> Result<(), Ending> {
     for name in files {
         if !is_folder(rt, name) {
             checker.check(name)?;
@@ -58,10 +50,7 @@ where
 }
 
 /// Judges the files that a list names.
-fn check_list<R>(rt: &R, checker: &mut Checker<'_, R>, list: &str) -> Result<(), Ending>
-where
-    R: Input + Files<File = File> + Clock + Print + Eprint + AllocGlobal,
-{
+fn check_list(rt: &HostRuntime, checker: &mut Checker<'_>, list: &str) -> Result<(), Ending> {
     if list == STANDARD_INPUT {
         return checker.check_list(rt.reader());
     }
@@ -72,7 +61,7 @@ where
 }
 
 /// Refuses an empty file name, and two uses of the standard input.
-fn check_names(rt: &impl Eprint, files: &[&str], list: Option<&str>) -> Result<(), Ending> {
+fn check_names(rt: &HostRuntime, files: &[&str], list: Option<&str>) -> Result<(), Ending> {
     let mut inputs: usize = 0;
     for name in files.iter().copied().chain(list) {
         if name.is_empty() {

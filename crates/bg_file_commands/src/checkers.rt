@@ -14,16 +14,14 @@ use std::alloc::{AllocError, Global};
 use std::fs::File;
 use std::io;
 use std::io::ErrorKind;
-use std::rt::Files;
-use std::time::Clock;
 
 /// The name for the standard input.
 pub(crate) const STANDARD_INPUT: &str = "-";
 
 /// Goes through many files, prints the result of each, and counts them.
 #[derive(Drop)]
-pub(crate) struct Checker<'a, R> {
-    rt: &'a R,
+pub(crate) struct Checker<'a> {
+    rt: &'a HostRuntime,
     /// The columns of the screen that the standard output is, if it is one.
     columns: Option<usize>,
     /// Whether nothing is printed for good files.
@@ -33,20 +31,17 @@ pub(crate) struct Checker<'a, R> {
     tally: Tally,
 }
 
-impl<'a, R> Checker<'a, R>
-where
-    R: Input + Files<File = File> + Clock + Print + Eprint + AllocGlobal,
-{
+impl<'a> Checker<'a> {
     /// Creates a checker that has judged no file yet, and prints what stands above the rows of the
     /// format. `columns` is the width of the standard output, if it is a screen. If `is_quiet` is
     /// set, nothing is printed for good files.
     pub(crate) fn begin(
-        rt: &'a R,
+        rt: &'a HostRuntime,
         columns: Option<usize>,
         is_quiet: bool,
         format: CheckFormat,
         progress: Progress,
-    ) -> Result<Checker<'a, R>, Ending> {
+    ) -> Result<Checker<'a>, Ending> {
         if format == CheckFormat::Tsv {
             print_text(rt, HEADINGS)?;
         }

@@ -7,13 +7,9 @@ use bg_reports::{Ending, Found};
 use bg_system::Printable;
 use std::fs::File;
 use std::io;
-use std::rt::Files;
 
 /// Prints what the secret in this file says of the dice of the transcript on the standard input.
-pub fn run<R>(rt: &R, secret: &str) -> Result<Ending, Ending>
-where
-    R: Input + Files<File = File> + Print + Eprint + AllocGlobal,
-{
+pub fn run(rt: &HostRuntime, secret: &str) -> Result<Ending, Ending> {
     let secret = secret_of_file(rt, secret)?;
     let record = read_record(rt)?;
     let checked = allocated(rt, checked_text(rt.alloc(), &secret, &record))?;
@@ -26,10 +22,7 @@ where
 }
 
 /// Returns the secret in a file. Reports why where it has none.
-fn secret_of_file<R>(rt: &R, path: &str) -> Result<Secret, Ending>
-where
-    R: Files<File = File> + Eprint + AllocGlobal,
-{
+fn secret_of_file(rt: &HostRuntime, path: &str) -> Result<Secret, Ending> {
     let bytes = match bytes_of(rt, path) {
         Ok(bytes) => bytes,
         Err(error) => return Err(failed_at(rt, path, " could not be read", &error)),
@@ -44,6 +37,6 @@ where
 }
 
 /// Returns the bytes of a file.
-fn bytes_of(rt: &(impl Files<File = File> + AllocGlobal), path: &str) -> io::Result<Vec<u8>> {
+fn bytes_of(rt: &HostRuntime, path: &str) -> io::Result<Vec<u8>> {
     read_input(rt.alloc(), File::open(rt, path)?)
 }

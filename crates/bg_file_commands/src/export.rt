@@ -5,19 +5,17 @@ use crate::inputs::{standard_input, transcript_as_match_file};
 use bg_console::{Progress, print_text, wrong};
 use bg_options::{ExportOptions, HeaderOptions};
 use bg_reports::Ending;
-use std::fs::File;
-use std::rt::Files;
-use std::time::Clock;
 
 /// The name of a transcript on the standard input, in messages.
 const TRANSCRIPT: &str = "the transcript";
 
 /// Prints the match file of the transcript on the standard input, or writes those of the named
 /// files into a folder.
-pub fn run<R>(rt: &R, options: ExportOptions<'_, '_>, progress: Progress) -> Result<Ending, Ending>
-where
-    R: Input + Files<File = File> + Clock + Print + Eprint + AllocGlobal,
-{
+pub fn run(
+    rt: &HostRuntime,
+    options: ExportOptions<'_, '_>,
+    progress: Progress,
+) -> Result<Ending, Ending> {
     check_first_name(rt, &options.headers)?;
     if let Some(batch) = options.batch {
         return convert_all(rt, Conversion::Export(options.headers), batch, progress);
@@ -29,7 +27,7 @@ where
 }
 
 /// Refuses a name of X that begins with a semicolon, as the line that it heads would be a comment.
-fn check_first_name(rt: &impl Eprint, headers: &HeaderOptions<'_>) -> Result<(), Ending> {
+fn check_first_name(rt: &HostRuntime, headers: &HeaderOptions<'_>) -> Result<(), Ending> {
     match headers.x {
         Some(name) if name.starts_with(';') => Err(wrong(
             rt,

@@ -9,7 +9,6 @@ use bg_system::{MatchFile, Printable, read_saved};
 use bg_wire::{REFEREE, RestoreRefusal, Saved, Slot, party_of, restore};
 use std::fs::File;
 use std::io;
-use std::rt::Files;
 
 /// The name for the standard input.
 const STANDARD_INPUT: &str = "-";
@@ -23,10 +22,11 @@ pub(crate) struct Held<'a> {
 
 impl<'a> Held<'a> {
     /// Creates a source that holds no entry.
-    pub(crate) fn nothing<R>(rt: &R, file: MatchFile, name: &'a str) -> Result<Held<'a>, Ending>
-    where
-        R: Eprint + AllocGlobal,
-    {
+    pub(crate) fn nothing(
+        rt: &HostRuntime,
+        file: MatchFile,
+        name: &'a str,
+    ) -> Result<Held<'a>, Ending> {
         match Record::new(rt.alloc(), file.id, file.terms.length, file.terms.rules) {
             Ok(record) => Ok(Held {
                 name,
@@ -38,7 +38,7 @@ impl<'a> Held<'a> {
 
     /// Becomes the other one where that holds more. Ends with `WrongArguments` where an entry
     /// differs, or they are of different matches.
-    pub(crate) fn take<R: Eprint>(&mut self, rt: &R, other: Held<'a>) -> Result<(), Ending> {
+    pub(crate) fn take(&mut self, rt: &HostRuntime, other: Held<'a>) -> Result<(), Ending> {
         let (one, two) = (self.name, other.name);
         match compare(&self.saved, &other.saved) {
             Compared::Behind(0) => {}
@@ -54,7 +54,7 @@ impl<'a> Held<'a> {
 }
 
 /// Reports that two sources differ at an entry.
-fn differ(rt: &impl Eprint, one: &str, two: &str, number: Number) -> Ending {
+fn differ(rt: &HostRuntime, one: &str, two: &str, number: Number) -> Ending {
     let (one, two) = (Printable(one), Printable(two));
     wrong(
         rt,
@@ -76,15 +76,12 @@ pub(crate) fn saved_of(log: Record) -> Saved {
 
 /// Returns what the seat of this player has saved in its folder. Returns `None`, and reports it,
 /// where the seat has saved nothing.
-pub(crate) fn seat_of<R>(
-    rt: &R,
+pub(crate) fn seat_of(
+    rt: &HostRuntime,
     file: MatchFile,
     folder: &str,
     player: Player,
-) -> Result<Option<Saved>, Ending>
-where
-    R: Files<File = File> + Eprint + AllocGlobal,
-{
+) -> Result<Option<Saved>, Ending> {
     let party = party_of(player);
     match restored(rt, file, folder, party)? {
         Ok(Some(saved)) => Ok(Some(saved)),
@@ -110,15 +107,12 @@ where
 }
 
 /// Returns what the files of a party in a folder restore, or why they restore nothing.
-fn restored<R>(
-    rt: &R,
+fn restored(
+    rt: &HostRuntime,
     file: MatchFile,
     folder: &str,
     party: u8,
-) -> Result<Result<Option<Saved>, RestoreRefusal>, Ending>
-where
-    R: Files<File = File> + Eprint + AllocGlobal,
-{
+) -> Result<Result<Option<Saved>, RestoreRefusal>, Ending> {
     let zero = slot_of(rt, folder, party, Slot::Zero)?;
     let one = slot_of(rt, folder, party, Slot::One)?;
     let (length, rules) = (file.terms.length, file.terms.rules);
@@ -126,7 +120,7 @@ where
 }
 
 /// Reports why the files of a party in a folder are refused.
-fn wrong_seat(rt: &impl Eprint, folder: &str, party: u8, why: &str) -> Ending {
+fn wrong_seat(rt: &HostRuntime, folder: &str, party: u8, why: &str) -> Ending {
     let shown = Printable(folder);
     wrong(
         rt,
@@ -135,10 +129,7 @@ fn wrong_seat(rt: &impl Eprint, folder: &str, party: u8, why: &str) -> Ending {
 }
 
 /// Refuses a folder for this player's seat that has saves of the other seat.
-fn check_seat<R>(rt: &R, folder: &str, player: Player) -> Result<(), Ending>
-where
-    R: Files<File = File> + Eprint + AllocGlobal,
-{
+fn check_seat(rt: &HostRuntime, folder: &str, player: Player) -> Result<(), Ending> {
     let other = party_of(player.opponent());
     if !has_saved(rt, folder, other, Slot::Zero)? && !has_saved(rt, folder, other, Slot::One)? {
         return Ok(());
@@ -153,18 +144,12 @@ where
 }
 
 /// Returns whether a party's file in a folder has a byte.
-fn has_saved<R>(rt: &R, folder: &str, party: u8, slot: Slot) -> Result<bool, Ending>
-where
-    R: Files<File = File> + Eprint + AllocGlobal,
-{
+fn has_saved(rt: &HostRuntime, folder: &str, party: u8, slot: Slot) -> Result<bool, Ending> {
     Ok(!slot_of(rt, folder, party, slot)?.is_empty())
 }
 
 /// Reads the bytes of a party's file in a folder.
-fn slot_of<R>(rt: &R, folder: &str, party: u8, slot: Slot) -> Result<Vec<u8>, Ending>
-where
-    R: Files<File = File> + Eprint + AllocGlobal,
-{
+fn slot_of(rt: &HostRuntime, folder: &str, party: u8, slot: Slot) -> Result<Vec<u8>, Ending> {
     let path = allocated(rt, slot_path(rt.alloc(), folder, party, slot))?;
     match read_saved(rt, path.as_str()) {
         Ok(bytes) => Ok(bytes),
@@ -173,10 +158,11 @@ where
 }
 
 /// Reads the transcript with this name as a record of the match.
-pub(crate) fn transcript_of<R>(rt: &R, file: MatchFile, name: &str) -> Result<Record, Ending>
-where
-    R: Input + Files<File = File> + Eprint + AllocGlobal,
-{
+pub(crate) fn transcript_of(
+    rt: &HostRuntime,
+    file: MatchFile,
+    name: &str,
+) -> Result<Record, Ending> {
     if name.is_empty() {
         return Err(wrong(rt, "the name of a file is empty"));
     }
@@ -193,6 +179,6 @@ where
 }
 
 /// Reads the bytes of a file, up to the limit of what is judged.
-fn file_bytes(rt: &(impl Files<File = File> + AllocGlobal), name: &str) -> io::Result<Vec<u8>> {
+fn file_bytes(rt: &HostRuntime, name: &str) -> io::Result<Vec<u8>> {
     read_input(rt.alloc(), File::open(rt, name)?)
 }

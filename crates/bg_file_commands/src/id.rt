@@ -8,10 +8,7 @@ use bg_reports::Ending;
 use std::alloc::{AllocError, Global};
 
 /// Prints the identifiers of the standing at the end of the transcript on the standard input.
-pub fn run<R>(rt: &R) -> Result<Ending, Ending>
-where
-    R: Input + Print + Eprint + AllocGlobal,
-{
+pub fn run(rt: &HostRuntime) -> Result<Ending, Ending> {
     let record = read_record(rt)?;
     let text = allocated(rt, ids_text(rt.alloc(), &record.standing()))?;
     print_text(rt, text.as_bytes())?;

@@ -7,19 +7,17 @@ use crate::inputs::{match_file_text, standard_input};
 use bg_console::{Progress, allocated, print_text, say};
 use bg_options::ImportOptions;
 use bg_reports::Ending;
-use std::fs::File;
-use std::rt::Files;
-use std::time::Clock;
 
 /// The name of a match file on the standard input, in messages.
 const MATCH_FILE: &str = "the match file";
 
 /// Prints the transcript of the match file on the standard input, or writes those of the named
 /// files into a folder.
-pub fn run<R>(rt: &R, options: ImportOptions<'_, '_>, progress: Progress) -> Result<Ending, Ending>
-where
-    R: Input + Files<File = File> + Clock + Print + Eprint + AllocGlobal,
-{
+pub fn run(
+    rt: &HostRuntime,
+    options: ImportOptions<'_, '_>,
+    progress: Progress,
+) -> Result<Ending, Ending> {
     if let Some(batch) = options.batch {
         return convert_all(rt, Conversion::Import(options.rules), batch, progress);
     }
@@ -33,10 +31,12 @@ where
 }
 
 /// Writes the headers of a match file into a file, and reports the first that is malformed.
-fn keep_headers<R>(rt: &R, path: &str, headers: &Headers<'_>, is_forced: bool) -> Result<(), Ending>
-where
-    R: Files<File = File> + Eprint + AllocGlobal,
-{
+fn keep_headers(
+    rt: &HostRuntime,
+    path: &str,
+    headers: &Headers<'_>,
+    is_forced: bool,
+) -> Result<(), Ending> {
     if let Some(fault) = headers.fault {
         say(rt, format_args!("{fault}: it is left out"));
     }

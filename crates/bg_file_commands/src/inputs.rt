@@ -33,7 +33,7 @@ pub(crate) fn read_input(alloc: Global, input: impl Read + Drop) -> io::Result<V
 
 /// Reads the bytes of the standard input, up to the limit of what is judged. Reports why where it
 /// can't be read.
-pub(crate) fn standard_input<R: Input + Eprint + AllocGlobal>(rt: &R) -> Result<Vec<u8>, Ending> {
+pub(crate) fn standard_input(rt: &HostRuntime) -> Result<Vec<u8>, Ending> {
     match read_input(rt.alloc(), rt.reader()) {
         Ok(bytes) => Ok(bytes),
         Err(error) => Err(unread(rt, &error)),
@@ -41,20 +41,19 @@ pub(crate) fn standard_input<R: Input + Eprint + AllocGlobal>(rt: &R) -> Result<
 }
 
 /// Reads the record of the transcript on the standard input. Reports why where it has none.
-pub(crate) fn read_record<R>(rt: &R) -> Result<Record, Ending>
-where
-    R: Input + Eprint + AllocGlobal,
-{
+pub(crate) fn read_record(rt: &HostRuntime) -> Result<Record, Ending> {
     let bytes = standard_input(rt)?;
     record_in(rt, TRANSCRIPT, NO_NUMBER, &bytes)
 }
 
 /// Returns the record of a transcript with this name, of the match with this number. Reports why
 /// where it has none.
-pub(crate) fn record_in<R>(rt: &R, name: &str, id: u64, bytes: &[u8]) -> Result<Record, Ending>
-where
-    R: Eprint + AllocGlobal,
-{
+pub(crate) fn record_in(
+    rt: &HostRuntime,
+    name: &str,
+    id: u64,
+    bytes: &[u8],
+) -> Result<Record, Ending> {
     match read_transcript(rt.alloc(), id, bytes) {
         Ok(record) => Ok(record),
         Err(fault) => {
@@ -70,15 +69,12 @@ where
 
 /// Returns the transcript of a match file with this name, under these rules. Reports why where it
 /// has none.
-pub(crate) fn match_file_text<R>(
-    rt: &R,
+pub(crate) fn match_file_text(
+    rt: &HostRuntime,
     name: &str,
     rules: Rules,
     bytes: &[u8],
-) -> Result<Vec<u8>, Ending>
-where
-    R: Eprint + AllocGlobal,
-{
+) -> Result<Vec<u8>, Ending> {
     match import_mat(rt.alloc(), NO_NUMBER, rules, bytes) {
         Ok(imported) => allocated(rt, transcript_text(rt.alloc(), &imported.record)),
         Err(fault) => {
@@ -95,15 +91,12 @@ where
 
 /// Returns the match file of a transcript with this name, with these headers. Reports why where it
 /// has none.
-pub(crate) fn transcript_as_match_file<R>(
-    rt: &R,
+pub(crate) fn transcript_as_match_file(
+    rt: &HostRuntime,
     name: &str,
     headers: &HeaderOptions<'_>,
     bytes: &[u8],
-) -> Result<Vec<u8>, Ending>
-where
-    R: Eprint + AllocGlobal,
-{
+) -> Result<Vec<u8>, Ending> {
     let shown = allocated(rt, shown(rt.alloc(), name))?;
     let record = record_in(rt, shown.as_str(), NO_NUMBER, bytes)?;
     let plain = allocated(rt, export_mat(rt.alloc(), &record))?;
@@ -119,7 +112,7 @@ fn shown(alloc: Global, name: &str) -> Result<String, AllocError> {
 }
 
 /// Reports why an input is refused, as `check` reports it of a file.
-fn refused(rt: &impl Eprint, said: Result<(Vec<u8>, Verdict), AllocError>) -> Ending {
+fn refused(rt: &HostRuntime, said: Result<(Vec<u8>, Verdict), AllocError>) -> Ending {
     let Ok((text, verdict)) = said else {
         return no_memory(rt);
     };

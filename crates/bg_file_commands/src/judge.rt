@@ -12,10 +12,7 @@ use std::io;
 /// Judges the transcript on the standard input. Where the line that is refused has what other
 /// programs write, and transcripts don't have, it is named on the standard error; and so is a match
 /// file.
-pub fn run<R>(rt: &R) -> Result<Ending, Ending>
-where
-    R: Input + Print + Eprint + AllocGlobal,
-{
+pub fn run(rt: &HostRuntime) -> Result<Ending, Ending> {
     let mut noting = Noting::new(rt.reader());
     let mut input = Reading::new(&mut noting);
     let mut output = Writing::new(io::writer(rt));

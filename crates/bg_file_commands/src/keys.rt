@@ -6,16 +6,10 @@ use bg_console::{
 };
 use bg_reports::Ending;
 use bg_system::{KeyFiles, NamedMatch};
-use std::fs::File;
-use std::random::RandomSource;
-use std::rt::Files;
 
 /// Makes the key files of the match in this folder, from the secret there. Draws a new secret where
 /// there is neither a secret nor a key file.
-pub fn run<R>(rt: &R, folder: &str) -> Result<Ending, Ending>
-where
-    R: Files<File = File> + RandomSource + Print + Eprint + AllocGlobal,
-{
+pub fn run(rt: &HostRuntime, folder: &str) -> Result<Ending, Ending> {
     check_folder(
         rt,
         folder,
@@ -33,10 +27,7 @@ where
 
 /// Returns the keys of the folder, from its secret or its key files; new ones where it has none.
 /// The names are those of the match file.
-fn keys_for<R>(rt: &R, folder: &str, file: &NamedMatch) -> Result<KeyFiles, Ending>
-where
-    R: Files<File = File> + RandomSource + Eprint + AllocGlobal,
-{
+fn keys_for(rt: &HostRuntime, folder: &str, file: &NamedMatch) -> Result<KeyFiles, Ending> {
     if !has_key_secret(rt, folder)? {
         if let Some(kept) = key_files_of(rt, folder, &file.table)? {
             return Ok(kept.named(&file.names));

@@ -20,15 +20,10 @@ use bg_console::{
 use bg_options::{ListFormat, ListOptions};
 use bg_reports::{Ending, Found};
 use std::alloc::{AllocError, Global};
-use std::fs::File;
 use std::io;
-use std::rt::Files;
 
 /// Lists the matches in the folders that the options name, and below them.
-pub fn run<R>(rt: &R, options: ListOptions<'_, '_>) -> Result<Ending, Ending>
-where
-    R: Files<File = File> + Print + Eprint + AllocGlobal,
-{
+pub fn run(rt: &HostRuntime, options: ListOptions<'_, '_>) -> Result<Ending, Ending> {
     let ListOptions { folders, format } = options;
     if folders.contains(&"") {
         return Err(wrong(rt, "the name of a folder is empty"));
@@ -49,16 +44,13 @@ where
 
 /// Appends the lines of the matches in a folder and below it, whose parts are not aligned yet.
 /// Returns the worst that was found. Reports where there is no match.
-fn list<R>(
-    rt: &R,
+fn list(
+    rt: &HostRuntime,
     format: ListFormat,
     folder: &str,
     locks: &Locks,
     lines: &mut Vec<u8>,
-) -> Result<Soundness, Ending>
-where
-    R: Files<File = File> + Eprint + AllocGlobal,
-{
+) -> Result<Soundness, Ending> {
     let mut places = read(rt, matches_below(rt, folder))?;
     places.retain(|place| !matches!(place.finding, Finding::WatchKey));
     if places.is_empty() {
@@ -74,10 +66,7 @@ where
 }
 
 /// Returns the listing of a folder that was found.
-fn listing_of<R>(rt: &R, place: MatchBelow, locks: &Locks) -> io::Result<Listed>
-where
-    R: Files<File = File> + AllocGlobal,
-{
+fn listing_of(rt: &HostRuntime, place: MatchBelow, locks: &Locks) -> io::Result<Listed> {
     match place.finding {
         Finding::Unread(fault) => Listed::unread(rt.alloc(), place.path, fault),
         _ => examine(rt, place.path, locks),
@@ -98,10 +87,7 @@ fn put_line(
 }
 
 /// Prints the lines.
-fn print_lines<R>(rt: &R, format: ListFormat, lines: &[u8]) -> Result<(), Ending>
-where
-    R: Print + Eprint + AllocGlobal,
-{
+fn print_lines(rt: &HostRuntime, format: ListFormat, lines: &[u8]) -> Result<(), Ending> {
     match format {
         ListFormat::Text => {
             let text = allocated(rt, aligned(rt.alloc(), lines))?;
@@ -112,7 +98,7 @@ where
 }
 
 /// Returns the result of reading, which fails for want of memory alone. Reports that failure.
-fn read<T>(rt: &impl Eprint, attempt: io::Result<T>) -> Result<T, Ending> {
+fn read<T>(rt: &HostRuntime, attempt: io::Result<T>) -> Result<T, Ending> {
     match attempt {
         Ok(found) => Ok(found),
         Err(_) => Err(no_memory(rt)),

@@ -12,9 +12,6 @@ use bg_system::{
 };
 use bg_wire::{FIRST_WATCHER, SEAT_OF_O, SEAT_OF_X};
 use std::fs;
-use std::fs::File;
-use std::random::RandomSource;
-use std::rt::Files;
 
 /// The files of a folder whose match is complete, or was begun: a folder with one of them is not
 /// new. Secrets and key files alone are those of a match that was never completed.
@@ -29,20 +26,14 @@ const HOLDERS: [(u8, &str); 3] = [
 
 /// Creates the folder where it is missing, and locks it. Ends with `WrongArguments` where it has
 /// files of a match, and with `Failed` where it can't be locked.
-pub(crate) fn begin_folder<R>(rt: &R, folder: &str) -> Result<FolderLock, Ending>
-where
-    R: Files<File = File> + Eprint + AllocGlobal,
-{
+pub(crate) fn begin_folder(rt: &HostRuntime, folder: &str) -> Result<FolderLock, Ending> {
     let lock = own_folder(rt, folder)?;
     check_unused(rt, folder)?;
     Ok(lock)
 }
 
 /// Writes a new secret of the dice to the folder, and its SHA-256, which it returns.
-pub(crate) fn make_secret_of_dice<R>(rt: &R, folder: &str) -> Result<Digest, Ending>
-where
-    R: Files<File = File> + RandomSource + Eprint + AllocGlobal,
-{
+pub(crate) fn make_secret_of_dice(rt: &HostRuntime, folder: &str) -> Result<Digest, Ending> {
     if let Err(error) = make_secret(rt, folder) {
         return Err(failed_at(rt, folder, "/secret could not be written", &error));
     }
@@ -57,10 +48,7 @@ where
 }
 
 /// Prints the SHA-256 of the secret of the dice, which players are told before the first roll.
-pub(crate) fn tell_dice<R>(rt: &R, digest: &Digest) -> Result<(), Ending>
-where
-    R: Print + Eprint + AllocGlobal,
-{
+pub(crate) fn tell_dice(rt: &HostRuntime, digest: &Digest) -> Result<(), Ending> {
     let text = allocated(rt, told_text(rt.alloc(), Some(digest), None))?;
     let line = str::from_utf8(&text).unwrap_or_default();
     let told = println!(rt; "dice: {}", line.trim_ascii_end());
@@ -68,10 +56,7 @@ where
 }
 
 /// Writes a new secret of the keys to the folder.
-pub(crate) fn make_secret_of_keys<R>(rt: &R, folder: &str) -> Result<(), Ending>
-where
-    R: Files<File = File> + RandomSource + Eprint + AllocGlobal,
-{
+pub(crate) fn make_secret_of_keys(rt: &HostRuntime, folder: &str) -> Result<(), Ending> {
     match make_key_secret(rt, folder) {
         Ok(()) => Ok(()),
         Err(error) => Err(failed_at(rt, folder, "/key-secret could not be written", &error)),
@@ -80,10 +65,7 @@ where
 
 /// Removes the secret that keys are derived from, where an earlier attempt to make the folder has
 /// left one.
-pub(crate) fn remove_secret_of_keys<R>(rt: &R, folder: &str) -> Result<(), Ending>
-where
-    R: Files<File = File> + Eprint + AllocGlobal,
-{
+pub(crate) fn remove_secret_of_keys(rt: &HostRuntime, folder: &str) -> Result<(), Ending> {
     if !has_key_secret(rt, folder)? {
         return Ok(());
     }
@@ -96,10 +78,11 @@ where
 
 /// Returns the key files of the match, with its names. Their keys are derived from the secret in
 /// the folder.
-pub(crate) fn derived_keys<R>(rt: &R, folder: &str, file: &NamedMatch) -> Result<KeyFiles, Ending>
-where
-    R: Files<File = File> + Eprint + AllocGlobal,
-{
+pub(crate) fn derived_keys(
+    rt: &HostRuntime,
+    folder: &str,
+    file: &NamedMatch,
+) -> Result<KeyFiles, Ending> {
     match read_key_secret(rt, folder) {
         Ok(secret) => Ok(KeyFiles::derive(file.table, &secret).named(&file.names)),
         Err(error) => Err(failed_at(rt, folder, "/key-secret could not be read", &error)),
@@ -108,15 +91,12 @@ where
 
 /// Writes the key files to the folder, and then the match file as the last of its files. So where
 /// there is a match file, the match is complete.
-pub(crate) fn end_folder<R>(
-    rt: &R,
+pub(crate) fn end_folder(
+    rt: &HostRuntime,
     folder: &str,
     file: &NamedMatch,
     keys: &KeyFiles,
-) -> Result<(), Ending>
-where
-    R: Files<File = File> + Eprint + AllocGlobal,
-{
+) -> Result<(), Ending> {
     write_key_files(rt, folder, keys)?;
     match file.write(rt, folder) {
         Ok(()) => Ok(()),
@@ -125,10 +105,11 @@ where
 }
 
 /// Writes the key files to the folder: those of the seats, and that of all watchers.
-pub(crate) fn write_key_files<R>(rt: &R, folder: &str, keys: &KeyFiles) -> Result<(), Ending>
-where
-    R: Files<File = File> + Eprint + AllocGlobal,
-{
+pub(crate) fn write_key_files(
+    rt: &HostRuntime,
+    folder: &str,
+    keys: &KeyFiles,
+) -> Result<(), Ending> {
     for file in [&keys.x, &keys.o, &keys.watchers] {
         if let Err(error) = file.write(rt, folder) {
             let (shown, name) = (Printable(folder), name_of_key_file(file.party));
@@ -142,7 +123,7 @@ where
 }
 
 /// Prints who is to be given which of the key files in the folder.
-pub(crate) fn tell_key_files<R: Print + Eprint>(rt: &R, folder: &str) -> Result<(), Ending> {
+pub(crate) fn tell_key_files(rt: &HostRuntime, folder: &str) -> Result<(), Ending> {
     let folder = Printable(without_slashes(folder));
     for (party, holder) in HOLDERS {
         let name = name_of_key_file(party);
@@ -152,7 +133,7 @@ pub(crate) fn tell_key_files<R: Print + Eprint>(rt: &R, folder: &str) -> Result<
 }
 
 /// Prints that no key file needs to be handed out.
-pub(crate) fn tell_kept_keys<R: Print + Eprint>(rt: &R) -> Result<(), Ending> {
+pub(crate) fn tell_kept_keys(rt: &HostRuntime) -> Result<(), Ending> {
     let told = println!(rt;
         "the keys are kept: X, O and the watchers continue with the key files that they have"
     );
@@ -160,10 +141,7 @@ pub(crate) fn tell_kept_keys<R: Print + Eprint>(rt: &R) -> Result<(), Ending> {
 }
 
 /// Refuses a folder that has files of a match.
-fn check_unused<R>(rt: &R, folder: &str) -> Result<(), Ending>
-where
-    R: Files<File = File> + Eprint + AllocGlobal,
-{
+fn check_unused(rt: &HostRuntime, folder: &str) -> Result<(), Ending> {
     for name in NAMES {
         let path = allocated(rt, path_in(rt.alloc(), folder, name))?;
         if fs::symlink_metadata(rt, path.as_str()).is_ok() {

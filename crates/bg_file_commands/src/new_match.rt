@@ -13,18 +13,14 @@ use bg_options::NewOptions;
 use bg_reports::Ending;
 use bg_system::{MatchFile, NamedMatch, Names};
 use std::fs;
-use std::fs::File;
 use std::random::RandomSource;
-use std::rt::Files;
 
 /// What to do where the system gives no random bytes.
 const ELSEWHERE: &str = "; run it where the system lets a process call `getrandom`";
 
-/// Makes the match that the options name, and prints its line, and how it is played.
-pub fn run<R>(rt: &R, options: NewOptions<'_>) -> Result<Ending, Ending>
-where
-    R: Files<File = File> + RandomSource + Print + Eprint + AllocGlobal,
-{
+/// Makes the match that the options name. Prints its line, and how it is played by a program that
+/// is called by this name.
+pub fn run(rt: &HostRuntime, options: NewOptions<'_>, called: &str) -> Result<Ending, Ending> {
     let names = options.names();
     let NewOptions {
         terms,
@@ -32,10 +28,10 @@ where
         folder,
         ..
     } = options;
-    let (file, digest) = make_match(rt, terms, port, names, folder)?;
-    written(rt, rt.print(file.table))?;
+    let (table, digest) = make_match(rt, terms, port, names, folder)?;
+    written(rt, rt.print(table))?;
     tell_key_files(rt, folder)?;
-    tell_commands(rt, folder)?;
+    tell_commands(rt, called, folder)?;
     tell_dice(rt, &digest)?;
     Ok(Ending::Served)
 }
@@ -43,16 +39,13 @@ where
 /// Makes the secrets first, and the match file last, so that where there is one the match is
 /// complete. The port is checked before the folder is made, so that nothing is left of a match
 /// whose port is refused.
-fn make_match<R>(
-    rt: &R,
+fn make_match(
+    rt: &HostRuntime,
     terms: Terms,
     port: u16,
     names: Names,
     folder: &str,
-) -> Result<(NamedMatch, Digest), Ending>
-where
-    R: Files<File = File> + RandomSource + Eprint + AllocGlobal,
-{
+) -> Result<(MatchFile, Digest), Ending> {
     if fs::metadata(rt, folder).is_err() {
         check_ports(rt, folder, port)?;
     }
@@ -65,11 +58,11 @@ where
     let file = NamedMatch { table, names };
     let keys = derived_keys(rt, folder, &file)?;
     end_folder(rt, folder, &file, &keys)?;
-    Ok((file, digest))
+    Ok((table, digest))
 }
 
 /// Returns a number that nobody can foresee.
-fn random_number(rt: &(impl RandomSource + Eprint)) -> Result<u64, Ending> {
+fn random_number(rt: &HostRuntime) -> Result<u64, Ending> {
     let mut bytes = [0; 8];
     match rt.fill_bytes(&mut bytes) {
         Ok(()) => Ok(u64::from_be_bytes(bytes)),

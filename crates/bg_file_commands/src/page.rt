@@ -7,19 +7,15 @@ use bg_match::Record;
 use bg_options::{HeaderOptions, PageOptions};
 use bg_picture::{Numbering, PageWords, page_text};
 use bg_reports::Ending;
-use bg_system::Names;
+use bg_system::{Name, Names};
 use std::alloc::{AllocError, Global};
-use std::fs::File;
-use std::rt::Files;
 
 /// Prints the page of the transcript on the standard input, with the title and the numbering that
 /// the options name. Where they have no names, the match file or key file that they name gives
 /// them, and where they have no title, the names do.
-pub fn run<R>(rt: &R, options: PageOptions<'_>) -> Result<Ending, Ending>
-where
-    R: Input + Files<File = File> + Print + Eprint + AllocGlobal,
-{
-    let names = names_of(rt, &options)?;
+pub fn run(rt: &HostRuntime, options: PageOptions<'_>) -> Result<Ending, Ending> {
+    let (x, o) = names_of(rt, &options)?;
+    let names = Names { x, o };
     let title = title_in(rt, &options, &names)?;
     let words = page_words(title.as_str(), &names);
     let record = read_record(rt)?;
@@ -28,41 +24,31 @@ where
 }
 
 /// Prints the page of a record.
-fn print_page<R>(
-    rt: &R,
+fn print_page(
+    rt: &HostRuntime,
     record: &Record,
     words: PageWords<'_>,
     numbering: Numbering,
-) -> Result<(), Ending>
-where
-    R: Print + Eprint + AllocGlobal,
-{
+) -> Result<(), Ending> {
     let text = allocated(rt, page_text(rt.alloc(), record, words, numbering, 0))?;
     print_text(rt, &text)
 }
 
-/// Returns the names of the players: those of the options, or else those of the file that they
-/// name.
-fn names_of<R>(rt: &R, options: &PageOptions<'_>) -> Result<Names, Ending>
-where
-    R: Files<File = File> + Eprint + AllocGlobal,
-{
-    let names = options.names();
+/// Returns the names of X and of O: those of the options, or else those of the file that they name.
+fn names_of(
+    rt: &HostRuntime,
+    options: &PageOptions<'_>,
+) -> Result<(Option<Name>, Option<Name>), Ending> {
+    let Names { x, o } = options.names();
     let Some(path) = options.match_path else {
-        return Ok(names);
+        return Ok((x, o));
     };
     let file = table_of(rt, path)?.names;
-    Ok(Names {
-        x: names.x.or(file.x),
-        o: names.o.or(file.o),
-    })
+    Ok((x.or(file.x), o.or(file.o)))
 }
 
 /// Returns the title of a page.
-fn title_in<R>(rt: &R, options: &PageOptions<'_>, names: &Names) -> Result<String, Ending>
-where
-    R: Eprint + AllocGlobal,
-{
+fn title_in(rt: &HostRuntime, options: &PageOptions<'_>, names: &Names) -> Result<String, Ending> {
     let title = title_of(rt, options.title, names)?;
     allocated(rt, with_occasion(rt.alloc(), title, &options.headers))
 }

@@ -11,10 +11,7 @@ use std::alloc::{AllocError, Global};
 
 /// Prints the picture of the standing at the end of the transcript on the standard input, with the
 /// names and the occasion that the options give below it.
-pub fn run<R>(rt: &R, options: PictureOptions<'_>) -> Result<Ending, Ending>
-where
-    R: Input + Print + Eprint + AllocGlobal,
-{
+pub fn run(rt: &HostRuntime, options: PictureOptions<'_>) -> Result<Ending, Ending> {
     let standing = read_record(rt)?.standing();
     let text = allocated(rt, picture_of(rt.alloc(), &standing, &options))?;
     print_text(rt, &text)?;

@@ -17,31 +17,31 @@ const INDENT: &str = "    ";
 
 const BROKEN: &str = " \\\n        ";
 
-/// Prints the commands by which the match in a folder is played. Each seat has a folder beside it.
-pub(crate) fn tell_commands<R>(rt: &R, folder: &str) -> Result<(), Ending>
-where
-    R: Print + Eprint + AllocGlobal,
-{
-    let text = allocated(rt, commands_text(rt.alloc(), folder))?;
+/// Prints the commands by which the match in a folder is played by a program that is called by this
+/// name. Each seat has a folder beside it.
+pub(crate) fn tell_commands(rt: &HostRuntime, called: &str, folder: &str) -> Result<(), Ending> {
+    let text = allocated(rt, commands_text(rt.alloc(), called, folder))?;
     print_text(rt, &text)
 }
 
 /// Returns the text of the commands.
-fn commands_text(alloc: Global, folder: &str) -> Result<Vec<u8>, AllocError> {
+fn commands_text(alloc: Global, called: &str, folder: &str) -> Result<Vec<u8>, AllocError> {
     let joint = joint_of(folder);
     let folder = format!(in alloc; "{}", ShellWord(without_slashes(folder)))?;
     let own = format!(in alloc; "--dir {}", folder.as_str())?;
     let mut text = Vec::new(alloc);
     put_text(&mut text, "then run, each in a terminal of its own:\n")?;
-    put_command(&mut text, "bg_relay referee", own.as_str())?;
+    let referee = format!(in alloc; "{} referee", ShellWord(called))?;
+    put_command(&mut text, referee.as_str(), own.as_str())?;
     for (party, letter) in [(SEAT_OF_X, "x"), (SEAT_OF_O, "o")] {
         let key_file = match_words(alloc, folder.as_str(), party)?;
-        let play = format!(in alloc; "bg_relay play {}", key_file.as_str())?;
+        let play = format!(in alloc; "{} play {}", ShellWord(called), key_file.as_str())?;
         let own = format!(in alloc; "--dir {}{joint}{letter}", folder.as_str())?;
         put_command(&mut text, play.as_str(), own.as_str())?;
     }
     let watched = match_words(alloc, folder.as_str(), FIRST_WATCHER)?;
-    put_command(&mut text, "bg_relay watch", watched.as_str())?;
+    let watch = format!(in alloc; "{} watch", ShellWord(called))?;
+    put_command(&mut text, watch.as_str(), watched.as_str())?;
     Ok(text)
 }
 

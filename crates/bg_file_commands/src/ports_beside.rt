@@ -5,9 +5,7 @@ use bg_console::{MatchBeside, folder_of, matches_beside, no_memory, wrong};
 use bg_match::{Phase, Standing};
 use bg_reports::Ending;
 use bg_system::Printable;
-use std::fs::File;
 use std::io;
-use std::rt::Files;
 
 /// Number of ports of a match, from its own on.
 const PORTS: u16 = 256;
@@ -15,10 +13,7 @@ const PORTS: u16 = 256;
 /// Refuses the port of a match that is to be made in this folder, where its ports overlap those of
 /// a match in another folder beside it that is not over. What can't be read there counts as no
 /// match.
-pub(crate) fn check_ports<R>(rt: &R, folder: &str, port: u16) -> Result<(), Ending>
-where
-    R: Files<File = File> + Eprint + AllocGlobal,
-{
+pub(crate) fn check_ports(rt: &HostRuntime, folder: &str, port: u16) -> Result<(), Ending> {
     for other in matches_beside(rt, folder)?.iter() {
         if port.abs_diff(other.file.port) < PORTS {
             check_over(rt, other)?;
@@ -28,10 +23,7 @@ where
 }
 
 /// Refuses the ports of this match, unless it is over and no process has its folder.
-fn check_over<R>(rt: &R, other: &MatchBeside) -> Result<(), Ending>
-where
-    R: Files<File = File> + Eprint + AllocGlobal,
-{
+fn check_over(rt: &HostRuntime, other: &MatchBeside) -> Result<(), Ending> {
     match is_done(rt, other) {
         Ok(true) => Ok(()),
         Ok(false) => Err(taken(rt, other)),
@@ -43,10 +35,7 @@ where
 ///
 /// # Errors
 /// `OutOfMemory` alone.
-fn is_done<R>(rt: &R, other: &MatchBeside) -> io::Result<bool>
-where
-    R: Files<File = File> + AllocGlobal,
-{
+fn is_done(rt: &HostRuntime, other: &MatchBeside) -> io::Result<bool> {
     let folder = folder_of(other.path.as_str());
     match standing_in(rt, folder, &other.file) {
         Ok(Some(standing)) if is_over(&standing) => Ok(!Locks::read(rt).have(rt, folder)?),
@@ -60,7 +49,7 @@ fn is_over(standing: &Standing) -> bool {
 }
 
 /// Reports that this match has the ports.
-fn taken(rt: &impl Eprint, other: &MatchBeside) -> Ending {
+fn taken(rt: &HostRuntime, other: &MatchBeside) -> Ending {
     let (shown, first) = (Printable(other.path.as_str()), other.file.port);
     let last = first.saturating_add(PORTS - 1);
     wrong(

@@ -14,15 +14,9 @@ use bg_options::RecoverOptions;
 use bg_reports::Ending;
 use bg_system::{Failures, FolderLock, KeyFiles, MatchFile, NamedMatch, PartyFiles, Printable};
 use bg_wire::{REFEREE, next_save};
-use std::fs::File;
-use std::random::RandomSource;
-use std::rt::Files;
 
 /// Makes the folder that the options name.
-pub fn run<R>(rt: &R, options: RecoverOptions<'_, '_>) -> Result<Ending, Ending>
-where
-    R: Input + Files<File = File> + RandomSource + Print + Eprint + AllocGlobal,
-{
+pub fn run(rt: &HostRuntime, options: RecoverOptions<'_, '_>) -> Result<Ending, Ending> {
     if options.x == options.o {
         return Err(wrong_at(
             rt,
@@ -48,15 +42,12 @@ where
 }
 
 /// Returns the record of the source that holds most. Locks the folders of the seats.
-fn longest_of<'a, R>(
-    rt: &R,
+fn longest_of<'a>(
+    rt: &HostRuntime,
     table: MatchFile,
     options: &RecoverOptions<'_, 'a>,
     locks: &mut Vec<FolderLock>,
-) -> Result<Held<'a>, Ending>
-where
-    R: Input + Files<File = File> + Eprint + AllocGlobal,
-{
+) -> Result<Held<'a>, Ending> {
     let mut longest = Held::nothing(rt, table, options.match_path)?;
     take_seat(rt, table, Player::X, options.x, locks, &mut longest)?;
     take_seat(rt, table, Player::O, options.o, locks, &mut longest)?;
@@ -68,17 +59,14 @@ where
 }
 
 /// Locks the folder of a seat, and takes what it holds where that is more.
-fn take_seat<'a, R>(
-    rt: &R,
+fn take_seat<'a>(
+    rt: &HostRuntime,
     table: MatchFile,
     player: Player,
     folder: &'a str,
     locks: &mut Vec<FolderLock>,
     longest: &mut Held<'a>,
-) -> Result<(), Ending>
-where
-    R: Files<File = File> + Eprint + AllocGlobal,
-{
+) -> Result<(), Ending> {
     check_folder(
         rt,
         folder,
@@ -100,16 +88,13 @@ where
 }
 
 /// Makes the folder with the keys that are kept, and leaves no secret of other keys in it.
-fn make_with<R>(
-    rt: &R,
+fn make_with(
+    rt: &HostRuntime,
     file: &NamedMatch,
     folder: &str,
     kept: &KeyFiles,
     longest: &Held<'_>,
-) -> Result<(), Ending>
-where
-    R: Files<File = File> + RandomSource + Print + Eprint + AllocGlobal,
-{
+) -> Result<(), Ending> {
     let _lock = begin_folder(rt, folder)?;
     let digest = make_secret_of_dice(rt, folder)?;
     remove_secret_of_keys(rt, folder)?;
@@ -119,10 +104,12 @@ where
 }
 
 /// Makes the folder with new keys, and their secret.
-fn make_anew<R>(rt: &R, file: &NamedMatch, folder: &str, longest: &Held<'_>) -> Result<(), Ending>
-where
-    R: Files<File = File> + RandomSource + Print + Eprint + AllocGlobal,
-{
+fn make_anew(
+    rt: &HostRuntime,
+    file: &NamedMatch,
+    folder: &str,
+    longest: &Held<'_>,
+) -> Result<(), Ending> {
     let _lock = begin_folder(rt, folder)?;
     let digest = make_secret_of_dice(rt, folder)?;
     make_secret_of_keys(rt, folder)?;
@@ -134,16 +121,13 @@ where
 
 /// Writes the first save with this record, and the keys. The match file comes last, so that where
 /// there is one the match is complete.
-fn fill<R>(
-    rt: &R,
+fn fill(
+    rt: &HostRuntime,
     file: &NamedMatch,
     folder: &str,
     keys: &KeyFiles,
     longest: &Held<'_>,
-) -> Result<(), Ending>
-where
-    R: Files<File = File> + Eprint + AllocGlobal,
-{
+) -> Result<(), Ending> {
     save_first(rt, folder, &longest.saved.log)?;
     end_folder(rt, folder, file, keys)?;
     tell_made(rt, folder, longest.name, longest.saved.log.len());
@@ -151,10 +135,7 @@ where
 }
 
 /// Writes the referee's first save, with this record, to the folder.
-fn save_first<R>(rt: &R, folder: &str, log: &Record) -> Result<(), Ending>
-where
-    R: Files<File = File> + Eprint + AllocGlobal,
-{
+fn save_first(rt: &HostRuntime, folder: &str, log: &Record) -> Result<(), Ending> {
     let Ok((slot, _, text)) = next_save(rt.alloc(), 0, REFEREE, &None, log) else {
         return Err(no_memory(rt));
     };
@@ -169,7 +150,7 @@ where
 }
 
 /// Reports the entries that a new folder begins with.
-fn tell_made(rt: &impl Eprint, folder: &str, name: &str, entries: Number) {
+fn tell_made(rt: &HostRuntime, folder: &str, name: &str, entries: Number) {
     let (shown, name) = (Printable(folder), Printable(name));
     if entries == 0 {
         say(

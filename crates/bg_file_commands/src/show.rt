@@ -7,17 +7,12 @@ use bg_system::read_saved;
 use bg_wire::{REFEREE, SEAT_OF_O, SEAT_OF_X, Slot};
 use std::alloc::{AllocError, Global};
 use std::fs;
-use std::fs::File;
-use std::rt::Files;
 
 /// The message behind the name of a file that is shown alone.
 const NO_FOLDER: &str = " is no folder: name the two files of a party, or a folder";
 
 /// Shows the saved files that the options name.
-pub fn run<R>(rt: &R, options: ShowOptions<'_>) -> Result<Ending, Ending>
-where
-    R: Files<File = File> + Print + Eprint + AllocGlobal,
-{
+pub fn run(rt: &HostRuntime, options: ShowOptions<'_>) -> Result<Ending, Ending> {
     let ShowOptions {
         path0,
         path1,
@@ -34,10 +29,7 @@ where
 }
 
 /// Shows the two files of a party.
-fn show_files<R>(rt: &R, path0: &str, path1: &str) -> Result<Ending, Ending>
-where
-    R: Files<File = File> + Print + Eprint + AllocGlobal,
-{
+fn show_files(rt: &HostRuntime, path0: &str, path1: &str) -> Result<Ending, Ending> {
     let slots = named_slots(rt, path0, path1)?;
     let shown = show_text(rt.alloc(), &slots.zero, &slots.one);
     let (text, loads) = allocated(rt, shown)?;
@@ -46,10 +38,7 @@ where
 }
 
 /// Reads the bytes of the two files of a party.
-fn named_slots<R>(rt: &R, path0: &str, path1: &str) -> Result<SlotBytes, Ending>
-where
-    R: Files<File = File> + Eprint + AllocGlobal,
-{
+fn named_slots(rt: &HostRuntime, path0: &str, path1: &str) -> Result<SlotBytes, Ending> {
     let zero = bytes_of(rt, path0)?;
     let one = bytes_of(rt, path1)?;
     Ok(SlotBytes { zero, one })
@@ -57,10 +46,7 @@ where
 
 /// Prints the transcript of what the two files of a party restore. Where that is nothing, it
 /// reports what they hold.
-fn print_transcript<R>(rt: &R, path0: &str, path1: &str) -> Result<Ending, Ending>
-where
-    R: Files<File = File> + Print + Eprint + AllocGlobal,
-{
+fn print_transcript(rt: &HostRuntime, path0: &str, path1: &str) -> Result<Ending, Ending> {
     let slots = named_slots(rt, path0, path1)?;
     let transcript = restored_transcript(rt.alloc(), &slots.zero, &slots.one);
     match allocated(rt, transcript)? {
@@ -73,10 +59,7 @@ where
 }
 
 /// Reports what the two files of a party hold, of which none loads.
-fn say_slots<R>(rt: &R, slots: &SlotBytes) -> Result<Ending, Ending>
-where
-    R: Eprint + AllocGlobal,
-{
+fn say_slots(rt: &HostRuntime, slots: &SlotBytes) -> Result<Ending, Ending> {
     let (text, _) = allocated(rt, show_text(rt.alloc(), &slots.zero, &slots.one))?;
     for line in str::from_utf8(&text).unwrap_or_default().lines() {
         say(rt, line);
@@ -86,10 +69,7 @@ where
 
 /// Shows the files of the parties in a folder. Shows the referee's alone where its seats have their
 /// own folders.
-fn show_folder<R>(rt: &R, folder: &str) -> Result<Ending, Ending>
-where
-    R: Files<File = File> + Print + Eprint + AllocGlobal,
-{
+fn show_folder(rt: &HostRuntime, folder: &str) -> Result<Ending, Ending> {
     check_folder(rt, folder, NO_FOLDER)?;
     let parties = parties_in(rt, folder)?;
     let (text, loads) = allocated(rt, parties.report(rt.alloc()))?;
@@ -118,10 +98,7 @@ impl Parties {
 }
 
 /// Reads the saved files of a folder.
-fn parties_in<R>(rt: &R, folder: &str) -> Result<Parties, Ending>
-where
-    R: Files<File = File> + Eprint + AllocGlobal,
-{
+fn parties_in(rt: &HostRuntime, folder: &str) -> Result<Parties, Ending> {
     let has_match = has_match(rt, folder)?;
     let referee = slots_of(rt, folder, REFEREE)?;
     let x = slots_of(rt, folder, SEAT_OF_X)?;
@@ -140,19 +117,13 @@ fn has_bytes(slots: &SlotBytes) -> bool {
 }
 
 /// Returns whether a folder is that of a referee whose seats have folders of their own.
-fn has_match<R>(rt: &R, folder: &str) -> Result<bool, Ending>
-where
-    R: Files<File = File> + Eprint + AllocGlobal,
-{
+fn has_match(rt: &HostRuntime, folder: &str) -> Result<bool, Ending> {
     let path = allocated(rt, path_in(rt.alloc(), folder, "match"))?;
     Ok(fs::metadata(rt, path.as_str()).is_ok())
 }
 
 /// Reads the bytes of the two files of a party in a folder.
-fn slots_of<R>(rt: &R, folder: &str, party: u8) -> Result<SlotBytes, Ending>
-where
-    R: Files<File = File> + Eprint + AllocGlobal,
-{
+fn slots_of(rt: &HostRuntime, folder: &str, party: u8) -> Result<SlotBytes, Ending> {
     Ok(SlotBytes {
         zero: slot_of(rt, folder, party, Slot::Zero)?,
         one: slot_of(rt, folder, party, Slot::One)?,
@@ -160,19 +131,13 @@ where
 }
 
 /// Reads the bytes of a party's file in a folder.
-fn slot_of<R>(rt: &R, folder: &str, party: u8, slot: Slot) -> Result<Vec<u8>, Ending>
-where
-    R: Files<File = File> + Eprint + AllocGlobal,
-{
+fn slot_of(rt: &HostRuntime, folder: &str, party: u8, slot: Slot) -> Result<Vec<u8>, Ending> {
     let path = allocated(rt, slot_path(rt.alloc(), folder, party, slot))?;
     bytes_of(rt, path.as_str())
 }
 
 /// Reads the bytes of a saved file.
-fn bytes_of<R>(rt: &R, path: &str) -> Result<Vec<u8>, Ending>
-where
-    R: Files<File = File> + Eprint + AllocGlobal,
-{
+fn bytes_of(rt: &HostRuntime, path: &str) -> Result<Vec<u8>, Ending> {
     match read_saved(rt, path) {
         Ok(bytes) => Ok(bytes),
         Err(error) => Err(failed_at(rt, path, " could not be read", &error)),

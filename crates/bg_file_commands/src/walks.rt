@@ -2,7 +2,6 @@
 
 use bg_console::{not_memory, without_slashes};
 use std::alloc::Global;
-use std::fs::File;
 use std::io::ErrorKind;
 use std::rt::Files;
 use std::{fs, io};
@@ -19,7 +18,7 @@ pub(crate) struct Place {
 }
 
 /// Returns whether a path is that of a folder.
-pub(crate) fn is_folder(rt: &impl Files<File = File>, path: &str) -> bool {
+pub(crate) fn is_folder(rt: &HostRuntime, path: &str) -> bool {
     fs::metadata(rt, path).is_ok_and(|found| found.is_dir())
 }
 
@@ -29,10 +28,7 @@ pub(crate) fn is_folder(rt: &impl Files<File = File>, path: &str) -> bool {
 ///
 /// # Errors
 /// `OutOfMemory` alone.
-pub(crate) fn files_below<R>(rt: &R, folder: &str) -> io::Result<Vec<Place>>
-where
-    R: Files<File = File> + AllocGlobal,
-{
+pub(crate) fn files_below(rt: &HostRuntime, folder: &str) -> io::Result<Vec<Place>> {
     let mut places = Vec::new(rt.alloc());
     let mut level = Vec::new(rt.alloc());
     level.push(String::from_str(rt.alloc(), without_slashes(folder))?)?;
@@ -49,10 +45,11 @@ where
 
 /// Appends the files in these folders, and those of them that can't be read. Returns the folders in
 /// them.
-fn add_level<R>(rt: &R, level: &[String], places: &mut Vec<Place>) -> io::Result<Vec<String>>
-where
-    R: Files<File = File> + AllocGlobal,
-{
+fn add_level(
+    rt: &HostRuntime,
+    level: &[String],
+    places: &mut Vec<Place>,
+) -> io::Result<Vec<String>> {
     let mut below = Vec::new(rt.alloc());
     for path in level {
         if let Err(error) = add_content(rt, path.as_str(), places, &mut below) {
@@ -75,15 +72,12 @@ fn add_unread(
 }
 
 /// Appends the files in a folder, and the folders in it.
-fn add_content<R>(
-    rt: &R,
+fn add_content(
+    rt: &HostRuntime,
     folder: &str,
     files: &mut Vec<Place>,
     folders: &mut Vec<String>,
-) -> io::Result<()>
-where
-    R: Files<File = File> + AllocGlobal,
-{
+) -> io::Result<()> {
     for found in fs::read_dir(&rt, folder)? {
         let found = match found {
             Ok(found) => found,
@@ -108,7 +102,7 @@ where
 }
 
 /// Returns whether a link leads to a file, or nowhere.
-fn leads_to_file(rt: &impl Files<File = File>, path: &str) -> bool {
+fn leads_to_file(rt: &HostRuntime, path: &str) -> bool {
     match fs::metadata(rt, path) {
         Ok(found) => found.is_file(),
         Err(_) => true,

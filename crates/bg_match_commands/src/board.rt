@@ -19,11 +19,8 @@ use bg_console::{check_out_folder, say_failures, wrong};
 use bg_options::BoardOptions;
 use bg_processes::Failures;
 use bg_reports::Ending;
-use std::fs::File;
-use std::net::Net;
-use std::rt::Files;
 use std::thread;
-use std::time::{Clock, Duration};
+use std::time::Duration;
 
 /// Number of milliseconds between two rounds of watchers.
 const ROUND_MILLISECONDS: u64 = 100;
@@ -36,10 +33,7 @@ const ROUNDS_OF_SEARCH: u64 = 100;
 
 /// Keeps pages of the matches in the folders that the options name, and below them, and of those
 /// whose key files they name. Ends only if it is to write them once, or if it fails.
-pub fn run<R>(rt: &R, options: BoardOptions<'_, '_>) -> Result<Ending, Ending>
-where
-    R: Net + Files<File = File> + Clock + Eprint + AllocGlobal,
-{
+pub fn run(rt: &HostRuntime, options: BoardOptions<'_, '_>) -> Result<Ending, Ending> {
     if options.places.contains(&"") || options.out.is_empty() {
         return Err(wrong(rt, "the name of a folder is empty"));
     }
@@ -52,16 +46,13 @@ where
 }
 
 /// Keeps the pages and their index.
-fn keep<'a, R>(
-    rt: &'a R,
+fn keep<'a>(
+    rt: &'a HostRuntime,
     options: &BoardOptions<'_, '_>,
     failures: &'a Failures,
-    search: &mut Search<'a, '_, '_, R>,
-    matches: &mut Vec<BoardMatch<'a, R>>,
-) -> Result<(), Ending>
-where
-    R: Net + Files<File = File> + Clock + Eprint + AllocGlobal,
-{
+    search: &mut Search<'a, '_, '_>,
+    matches: &mut Vec<BoardMatch<'a>>,
+) -> Result<(), Ending> {
     let mut is_new = true;
     for round in 0..u64::MAX {
         if round % ROUNDS_OF_SEARCH == 0 && search.run(matches)? {
@@ -86,14 +77,11 @@ where
 }
 
 /// Writes the pages of the matches that have something new. Returns whether there were any.
-fn look<R>(
-    rt: &R,
+fn look(
+    rt: &HostRuntime,
     options: &BoardOptions<'_, '_>,
-    matches: &mut Vec<BoardMatch<'_, R>>,
-) -> Result<bool, Ending>
-where
-    R: Files<File = File> + Clock + Eprint + AllocGlobal,
-{
+    matches: &mut Vec<BoardMatch<'_>>,
+) -> Result<bool, Ending> {
     let place = Place {
         out: options.out,
         numbering: options.numbering,

@@ -11,17 +11,14 @@ use bg_processes::{Failures, Printable, play_loop};
 use bg_reports::Ending;
 use bg_streams::Writing;
 use bg_world::WorldFault;
-use std::fs::File;
-use std::net::Net;
-use std::rt::Files;
-use std::time::Clock;
 use std::{fs, io};
 
 /// Plays the match that the options name.
-pub fn run<R>(rt: &R, options: LoopOptions<'_>, progress: Progress) -> Result<Ending, Ending>
-where
-    R: Net + Files<File = File> + Clock + Print + Eprint + AllocGlobal,
-{
+pub fn run(
+    rt: &HostRuntime,
+    options: LoopOptions<'_>,
+    progress: Progress,
+) -> Result<Ending, Ending> {
     let LoopOptions {
         seed,
         length,
@@ -61,10 +58,7 @@ where
 }
 
 /// Refuses the folder of the referee of a match between processes, whose saves would be lost.
-fn check_no_match<R>(rt: &R, folder: &str) -> Result<(), Ending>
-where
-    R: Files<File = File> + Eprint + AllocGlobal,
-{
+fn check_no_match(rt: &HostRuntime, folder: &str) -> Result<(), Ending> {
     let path = allocated(rt, format!(in rt.alloc(); "{folder}/match"))?;
     if fs::metadata(rt, path.as_str()).is_err() {
         return Ok(());
@@ -77,7 +71,7 @@ where
 }
 
 /// Reports that the match ended with a fault, and the reason if writing failed.
-fn loop_failed(rt: &impl Eprint, fault: LoopFault, reason: Option<&io::Error>) -> Ending {
+fn loop_failed(rt: &HostRuntime, fault: LoopFault, reason: Option<&io::Error>) -> Ending {
     match (fault, reason) {
         (LoopFault::Write, Some(error)) => unwritten(rt, error),
         (fault @ (LoopFault::Memory | LoopFault::World(WorldFault::Memory)), _) => {

@@ -5,19 +5,15 @@ use bg_console::{
     Progress, check_folder, check_writable, failed_with, has_key_secret, key_files_of, lock_of,
     match_of, no_memory, say_failures, tell_if_open, waited, waiting_for, wrong,
 };
-use bg_match::Number;
+use bg_match::{Number, Record};
 use bg_options::RefereeOptions;
 use bg_processes::{
-    Failures, FileKeeper, Going, Keyring, MatchFile, NamedMatch, PartySocket, Printable,
+    Failures, FileKeeper, Going, Keyring, MatchFile, NamedMatch, Names, PartySocket, Printable,
     RefereeProcess, Ticking, Waiting, read_key_secret, read_secret,
 };
 use bg_reports::Ending;
 use bg_wire::REFEREE;
 use bg_world::Outcome;
-use std::fs::File;
-use std::net::Net;
-use std::rt::Files;
-use std::time::Clock;
 
 /// The message on what isn't a folder.
 const NO_FOLDER: &str = " is no folder: name the one that `bg_relay new` made";
@@ -33,25 +29,30 @@ const NO_KEY_SECRET: &str = "/key-secret could not be read";
 const KEY_SECRET_REMEDY: &str =
     "let this user read it, or put it back; if it is lost, remove it: the key files in the folder do as well";
 
-type Referee<'a, R> = RefereeProcess<PartySocket<'a, R>, FileKeeper<'a, R>>;
+type Referee<'a> = RefereeProcess<PartySocket<'a, HostRuntime>, FileKeeper<'a, HostRuntime>>;
 
 /// Runs the referee of the match in this folder, until the match is over.
-pub fn run<R>(rt: &R, options: RefereeOptions<'_>, progress: Progress) -> Result<Ending, Ending>
-where
-    R: Net + Files<File = File> + Clock + Print + Eprint + AllocGlobal,
-{
+pub fn run(
+    rt: &HostRuntime,
+    options: RefereeOptions<'_>,
+    progress: Progress,
+) -> Result<Ending, Ending> {
     let RefereeOptions { folder, is_quiet } = options;
     check_folder(rt, folder, NO_FOLDER)?;
     let _lock = lock_of(rt, folder)?;
     tell_if_open(rt, folder);
     let failures = Failures::new();
-    let file = match_in(rt, folder)?;
+    // Each name by itself: else the check of this function is not told what a name is.
+    let NamedMatch {
+        table,
+        names: Names { x, o },
+    } = match_in(rt, folder)?;
     check_writable(rt, folder)?;
-    let (mut process, mut waiting, mut ticking) = begin(rt, folder, &file.table, &failures)?;
+    let (mut process, mut waiting, mut ticking) = begin(rt, folder, &table, &failures)?;
     let Some(record) = process.held() else {
         return Err(Ending::Failed);
     };
-    let mut logbook = Logbook::begin(rt, is_quiet, REFEREE, &file, record);
+    let mut logbook = begun_logbook(rt, is_quiet, table, Names { x, o }, record);
     let mut reporter = FailureReporter::new(rt, &failures, folder);
     let progress = if is_quiet {
         Progress::start(rt, false)
@@ -60,7 +61,7 @@ where
     };
     let ended = serve(
         rt,
-        saves_of(folder, &file.table),
+        saves_of(folder, &table),
         &mut process,
         &mut waiting,
         &mut ticking,
@@ -72,11 +73,20 @@ where
     ended
 }
 
+/// Logs that the referee of a match begins with this record, and returns its logbook.
+fn begun_logbook<'a>(
+    rt: &'a HostRuntime,
+    is_quiet: bool,
+    table: MatchFile,
+    names: Names,
+    record: &Record,
+) -> Logbook<'a> {
+    let file = NamedMatch { table, names };
+    Logbook::begin(rt, is_quiet, REFEREE, &file, record)
+}
+
 /// Reads the match file of a folder.
-fn match_in<R>(rt: &R, folder: &str) -> Result<NamedMatch, Ending>
-where
-    R: Files<File = File> + Eprint + AllocGlobal,
-{
+fn match_in(rt: &HostRuntime, folder: &str) -> Result<NamedMatch, Ending> {
     let Ok(path) = format!(in rt.alloc(); "{folder}/match") else {
         return Err(no_memory(rt));
     };
@@ -85,15 +95,12 @@ where
 
 /// Begins the referee of the match in a folder, with this match file, and returns its ways to wait
 /// too. Its devices note their failures in `failures`.
-fn begin<'a, R>(
-    rt: &'a R,
+fn begin<'a>(
+    rt: &'a HostRuntime,
     folder: &str,
     table: &MatchFile,
     failures: &'a Failures,
-) -> Result<(Referee<'a, R>, Waiting, Ticking), Ending>
-where
-    R: Net + Files<File = File> + Clock + Eprint + AllocGlobal,
-{
+) -> Result<(Referee<'a>, Waiting, Ticking), Ending> {
     let key = match read_secret(rt, folder) {
         Ok(key) => key,
         Err(error) => return Err(failed_with(rt, folder, NO_SECRET, &error, SECRET_REMEDY)),
@@ -126,10 +133,7 @@ fn saves_of<'a>(folder: &'a str, table: &'a MatchFile) -> OwnSaves<'a> {
 
 /// Returns the keys of all parties: derived from the folder's secret, or those of its key files.
 /// Where it has neither, reports how to make some.
-fn keys_of<R>(rt: &R, folder: &str, file: &MatchFile) -> Result<Keyring, Ending>
-where
-    R: Files<File = File> + Eprint + AllocGlobal,
-{
+fn keys_of(rt: &HostRuntime, folder: &str, file: &MatchFile) -> Result<Keyring, Ending> {
     if !has_key_secret(rt, folder)? {
         if let Some(files) = key_files_of(rt, folder, file)? {
             return Ok(Keyring::of_key_files(files));
@@ -147,19 +151,16 @@ where
 }
 
 /// Runs rounds until the match is over.
-fn serve<R>(
-    rt: &R,
+fn serve(
+    rt: &HostRuntime,
     saves: OwnSaves<'_>,
-    process: &mut Referee<'_, R>,
+    process: &mut Referee<'_>,
     waiting: &mut Waiting,
     ticking: &mut Ticking,
-    reporter: &mut FailureReporter<'_, R>,
-    logbook: &mut Logbook<'_, R>,
+    reporter: &mut FailureReporter<'_, HostRuntime>,
+    logbook: &mut Logbook<'_>,
     progress: Progress,
-) -> Result<Ending, Ending>
-where
-    R: Net + Files<File = File> + Clock + Eprint + AllocGlobal,
-{
+) -> Result<Ending, Ending> {
     let mut progress = progress;
     let mut told: Number = 0;
     for _ in 0..u64::MAX {

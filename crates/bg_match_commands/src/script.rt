@@ -11,10 +11,7 @@ use std::io;
 const SCRIPTED_MATCH: u64 = 1;
 
 /// Plays the script on the standard input, in a match that the options describe.
-pub fn run<R>(rt: &R, options: ScriptOptions) -> Result<Ending, Ending>
-where
-    R: Input + Print + Eprint + AllocGlobal,
-{
+pub fn run(rt: &HostRuntime, options: ScriptOptions) -> Result<Ending, Ending> {
     let setup = Setup {
         id: SCRIPTED_MATCH,
         length: options.terms.length,

@@ -17,10 +17,6 @@ use bg_processes::{Failures, Going, Liveness, MatchFile, Ticking, Waiting};
 use bg_reports::Ending;
 use bg_seals::Key;
 use bg_wire::FIRST_WATCHER;
-use std::fs::File;
-use std::net::Net;
-use std::rt::Files;
-use std::time::Clock;
 
 /// The message where there is no room for one more who watches.
 const NO_PORT: &str =
@@ -29,15 +25,12 @@ const NO_PORT: &str =
 /// Watches the match that the options name, and keeps the files that were asked for. Draws its
 /// board on the terminal, if the standard output is one, and otherwise prints its transcript.
 /// `is_watched` says whether the standard error is a terminal.
-pub fn run<R>(
-    rt: &R,
+pub fn run(
+    rt: &HostRuntime,
     options: WatchOptions<'_>,
     terminal: Option<Terminal>,
     is_watched: bool,
-) -> Result<Ending, Ending>
-where
-    R: Net + Files<File = File> + Clock + Print + Eprint + AllocGlobal,
-{
+) -> Result<Ending, Ending> {
     let WatchOptions {
         match_path,
         board,
@@ -115,7 +108,7 @@ fn audience_of(is_quiet: bool, is_watched: bool, is_drawn: bool) -> Audience {
 
 /// Refuses one file for two of the outputs, where each would replace the other.
 fn check_outputs(
-    rt: &(impl Files<File = File> + Eprint),
+    rt: &HostRuntime,
     board: Option<&str>,
     transcript: Option<&str>,
     page: Option<&str>,
@@ -134,16 +127,13 @@ fn check_outputs(
 
 /// Begins a watcher of the match of this key file, and returns its number too, its wait and its
 /// ticks.
-fn begin<'a, R>(
-    rt: &'a R,
+fn begin<'a>(
+    rt: &'a HostRuntime,
     path: &str,
     table: &MatchFile,
     key: &Key,
     failures: &'a Failures,
-) -> Result<(u8, Watcher<'a, R>, Waiting, Ticking), Ending>
-where
-    R: Net + Files<File = File> + Clock + Eprint + AllocGlobal,
-{
+) -> Result<(u8, Watcher<'a>, Waiting, Ticking), Ending> {
     let (party, process) = match begin_watcher(rt, path, table, key, failures) {
         Ok(begun) => begun,
         Err(NoWatcher::NoPort) => return Err(failed(rt, NO_PORT)),
@@ -155,20 +145,17 @@ where
 }
 
 /// Runs rounds until the match is over.
-fn watch<R>(
-    rt: &R,
-    process: &mut Watcher<'_, R>,
+fn watch(
+    rt: &HostRuntime,
+    process: &mut Watcher<'_>,
     waiting: &mut Waiting,
     ticking: &mut Ticking,
-    showing: &mut Showing<'_, R>,
-    logbook: &mut Logbook<'_, R>,
-    silence: &mut SilenceReporter<'_, R>,
+    showing: &mut Showing<'_>,
+    logbook: &mut Logbook<'_>,
+    silence: &mut SilenceReporter<'_>,
     published: &mut Published<'_>,
     is_watched: bool,
-) -> Result<(), Ending>
-where
-    R: Net + Files<File = File> + Clock + Print + Eprint + AllocGlobal,
-{
+) -> Result<(), Ending> {
     let mut liveness = Liveness::new();
     for _ in 0..u64::MAX {
         let (_, tick) = waited(rt, ticking.next_round(rt, waiting))?;

@@ -7,14 +7,10 @@ use bg_processes::{Failures, Keyring, MatchFile, PartySocket, WatcherProcess};
 use bg_reports::Ending;
 use bg_seals::Key;
 use bg_wire::{FIRST_WATCHER, LAST_WATCHER};
-use std::fs::File;
 use std::io;
 use std::io::ErrorKind;
-use std::net::Net;
-use std::rt::Files;
-use std::time::Clock;
 
-pub(crate) type Watcher<'a, R> = WatcherProcess<PartySocket<'a, R>>;
+pub(crate) type Watcher<'a> = WatcherProcess<PartySocket<'a, HostRuntime>>;
 
 /// Why a watcher could not begin.
 #[derive(Debug, Drop)]
@@ -37,16 +33,13 @@ fn begins_at(beside: &[MatchBeside], port: u16, party: u8) -> bool {
 /// Begins a watcher of this match, and returns its number too. `path` and `key` are those of its
 /// key file. The number is the first whose port is free, and isn't another referee's as far as the
 /// folders beside that of the key file show. Its socket notes its failures in `failures`.
-pub(crate) fn begin_watcher<'a, R>(
-    rt: &'a R,
+pub(crate) fn begin_watcher<'a>(
+    rt: &'a HostRuntime,
     path: &str,
     table: &MatchFile,
     key: &Key,
     failures: &'a Failures,
-) -> Result<(u8, Watcher<'a, R>), NoWatcher>
-where
-    R: Net + Files<File = File> + Clock + Eprint + AllocGlobal,
-{
+) -> Result<(u8, Watcher<'a>), NoWatcher> {
     let beside = match matches_beside(rt, folder_of(path)) {
         Ok(beside) => beside,
         Err(ending) => return Err(NoWatcher::Reported(ending)),
@@ -66,14 +59,12 @@ where
 }
 
 /// Begins the watcher with this number over its socket.
-fn sit_down<'a, R>(
-    rt: &R,
+fn sit_down<'a>(
+    rt: &HostRuntime,
     table: &MatchFile,
     party: u8,
-    link: PartySocket<'a, R>,
-) -> Result<(u8, Watcher<'a, R>), NoWatcher>
-where
-    R: Clock + Eprint + AllocGlobal,
+    link: PartySocket<'a, HostRuntime>,
+) -> Result<(u8, Watcher<'a>), NoWatcher>
     requires { first_watcher ≤ party }
 {
     match WatcherProcess::begin(rt.alloc(), party, table.id, table.terms, link) {

@@ -47,23 +47,32 @@ fn run(rt: &HostRuntime) -> Ending {
         return no_memory(rt);
     };
     match command.try_get_matches_from(words.as_slice()) {
-        Ok(matches) => obey_matches(rt, &matches),
+        Ok(matches) => obey_matches(rt, &matches, called_by(&words)),
         Err(error) => answer(rt, &error),
     }
 }
 
+/// Returns the name by which the program was called.
+fn called_by(words: &[String]) -> &str {
+    match words.first() {
+        Some(name) if !name.is_empty() => name.as_str(),
+        _ => "bg_relay",
+    }
+}
+
 /// Carries out the request of the parsed arguments, if they make one.
-fn obey_matches(rt: &HostRuntime, matches: &ArgMatches<'_>) -> Ending {
+fn obey_matches(rt: &HostRuntime, matches: &ArgMatches<'_>, called: &str) -> Ending {
     match Request::read(matches) {
-        Ok(request) => match obey(rt, request) {
+        Ok(request) => match obey(rt, request, called) {
             Ok(ending) | Err(ending) => ending,
         },
         Err(fault) => wrong(rt, fault),
     }
 }
 
-/// Carries out a request. Where a command ended early, the reason has been reported.
-fn obey(rt: &HostRuntime, request: Request<'_, '_>) -> Result<Ending, Ending> {
+/// Carries out a request, for a program that was called by this name. Where a command ended early,
+/// the reason has been reported.
+fn obey(rt: &HostRuntime, request: Request<'_, '_>, called: &str) -> Result<Ending, Ending> {
     let is_watched = rt.stderr().is_terminal();
     let progress = Progress::start(rt, is_watched);
     match request {
@@ -81,7 +90,7 @@ fn obey(rt: &HostRuntime, request: Request<'_, '_>) -> Result<Ending, Ending> {
         Request::Script(options) => script::run(rt, options),
         Request::Sim(options) => sim::run(rt, options, progress),
         Request::Loop(options) => play_loop::run(rt, options, progress),
-        Request::New(options) => new_match::run(rt, options),
+        Request::New(options) => new_match::run(rt, options, called),
         Request::Keys { folder } => keys::run(rt, folder),
         Request::Recover(options) => recover::run(rt, options),
         Request::Referee(options) => referee::run(rt, options, progress),
@@ -95,7 +104,7 @@ fn obey(rt: &HostRuntime, request: Request<'_, '_>) -> Result<Ending, Ending> {
 }
 
 /// Prints help or the version, or what is wrong with the arguments.
-fn answer(rt: &(impl Print + Eprint + AllocGlobal), error: &clap::Error) -> Ending {
+fn answer(rt: &HostRuntime, error: &clap::Error) -> Ending {
     if let ErrorKind::OutOfMemory = error.kind() {
         return no_memory(rt);
     }

@@ -1,5 +1,5 @@
 -- The exit status of the program.
-use Rattle.std.specs.Prelude.{ℕ, true, false, nat_lt, if◌then◌else◌}
+use Rattle.std.specs.Prelude.{ℕ, ◌+◌, ◌-◌, ◌^◌, min, true, false, nat_lt, if◌then◌else◌}
 use Rattle.bg_text.specs.declared.judging.verdicts.Verdict.TheVariants.{Fine, Refused, TooLong}
 use Rattle.bg_reports.specs.declared.endings.Ending.{Ending}
 use Rattle.bg_reports.specs.declared.endings.Ending.TheVariants.{Told, WrongArguments, Judged, Played, Simulated}
@@ -42,3 +42,8 @@ status_of Failed = failed
 abbrev pub worst_of : ℕ → ℕ → Found
 worst_of refusals unjudged =
     if nat_lt 0 unjudged then found.Unjudged else if nat_lt 0 refusals then found.Refused else found.Good
+
+-- the number of files of which so many are good, so many refused and so many not judged: at most
+-- the greatest number of 64 bits
+abbrev pub files_in : ℕ → ℕ → ℕ → ℕ
+files_in good refusals unjudged = min (good + refusals + unjudged) (2 ^ 64 - 1)

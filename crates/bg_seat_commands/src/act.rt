@@ -14,11 +14,7 @@ use bg_reports::{Ending, ending_of};
 use bg_table::refusal_text;
 use bg_text::parse_action;
 use bg_world::{Outcome, outcome_text};
-use std::fs::File;
 use std::io;
-use std::net::Net;
-use std::rt::Files;
-use std::time::Clock;
 
 /// Number of ticks before the seat claims, in which the referee may send what this process doesn't
 /// know yet.
@@ -66,10 +62,11 @@ enum Stage {
 
 /// Makes the one action that the options name, or waits for the player's turn. `is_watched` says
 /// whether the standard error is a terminal.
-pub fn run<R>(rt: &R, options: ActOptions<'_, '_>, is_watched: bool) -> Result<Ending, Ending>
-where
-    R: Net + Files<File = File> + Clock + Print + Eprint + AllocGlobal,
-{
+pub fn run(
+    rt: &HostRuntime,
+    options: ActOptions<'_, '_>,
+    is_watched: bool,
+) -> Result<Ending, Ending> {
     let wanted = Wanted {
         action: action_of(rt, options.words)?,
         entry: options.entry,
@@ -87,7 +84,7 @@ where
 }
 
 /// Returns the action that some words spell; `None` where there are no words.
-fn action_of<R: Eprint + AllocGlobal>(rt: &R, words: &[&str]) -> Result<Option<Action>, Ending> {
+fn action_of(rt: &HostRuntime, words: &[&str]) -> Result<Option<Action>, Ending> {
     let line = allocated(rt, joined(rt.alloc(), words))?;
     match parse_action(&line) {
         Ok(action) => Ok(Some(action)),
@@ -104,10 +101,7 @@ fn action_of<R: Eprint + AllocGlobal>(rt: &R, words: &[&str]) -> Result<Option<A
 }
 
 /// Makes the action, or waits for the player's turn.
-fn act<R>(rt: &R, seat: &mut Seat<'_, R>, wanted: &Wanted) -> Result<Ending, Ending>
-where
-    R: Net + Files<File = File> + Clock + Print + Eprint + AllocGlobal,
-{
+fn act(rt: &HostRuntime, seat: &mut Seat<'_>, wanted: &Wanted) -> Result<Ending, Ending> {
     let from = seat.held();
     let mut stage = Stage::Listening;
     if let Some((number, _)) = seat.process.open_claim() {
@@ -147,10 +141,7 @@ where
 }
 
 /// Claims the action. Returns the number of its entry, or `None` where there is nothing to claim.
-fn claim<R>(rt: &R, seat: &mut Seat<'_, R>, wanted: &Wanted) -> Result<Option<Number>, Ending>
-where
-    R: Net + Files<File = File> + Clock + Print + Eprint + AllocGlobal,
-{
+fn claim(rt: &HostRuntime, seat: &mut Seat<'_>, wanted: &Wanted) -> Result<Option<Number>, Ending> {
     let Some(action) = &wanted.action else {
         return Ok(None);
     };
@@ -178,10 +169,7 @@ where
 }
 
 /// Reports that an action is refused and, of an illegal one, why in the words of a player.
-fn refused<R>(rt: &R, seat: &Seat<'_, R>, action: &Action, fault: ChooseFault) -> Ending
-where
-    R: Net + Files<File = File> + Clock + Eprint + AllocGlobal,
-{
+fn refused(rt: &HostRuntime, seat: &Seat<'_>, action: &Action, fault: ChooseFault) -> Ending {
     say(rt, outcome_text(&Outcome::Chose(Err(fault))).as_str());
     if let (ChooseFault::Illegal(fault), Some(record)) = (fault, seat.process.held()) {
         let standing = record.standing();
@@ -194,10 +182,7 @@ where
 }
 
 /// Reports that the time is over. A claim that was saved is sent by the next call.
-fn out_of_time<R>(rt: &R, seat: &Seat<'_, R>) -> Ending
-where
-    R: Net + Files<File = File> + Clock + Eprint + AllocGlobal,
-{
+fn out_of_time(rt: &HostRuntime, seat: &Seat<'_>) -> Ending {
     match seat.process.open_claim() {
         Some((number, _)) => {
             let over = "the time is over: the claim of entry ";
@@ -225,16 +210,13 @@ where
 
 /// Prints the entries since the beginning and the board. Returns the ending, by whether the entry
 /// with this number answers the action.
-fn finish<R>(
-    rt: &R,
-    seat: &Seat<'_, R>,
+fn finish(
+    rt: &HostRuntime,
+    seat: &Seat<'_>,
     wanted: &Wanted,
     from: Number,
     number: Option<Number>,
-) -> Result<Ending, Ending>
-where
-    R: Net + Files<File = File> + Clock + Print + Eprint + AllocGlobal,
-{
+) -> Result<Ending, Ending> {
     let Some(record) = seat.process.held() else {
         return Ok(Ending::Failed);
     };
@@ -255,7 +237,7 @@ where
 }
 
 /// Prints the entries of a record behind the first `from`, and its board.
-fn print_news<R: Print + AllocGlobal>(rt: &R, record: &Record, from: Number) -> io::Result<()> {
+fn print_news(rt: &HostRuntime, record: &Record, from: Number) -> io::Result<()> {
     let mut text = Vec::new(rt.alloc());
     put_entries(&mut text, record, from)?;
     write_out(rt, &text)?;

@@ -7,17 +7,10 @@ use bg_console::{Telling, no_memory};
 use bg_options::SeatOptions;
 use bg_processes::{Failures, Going};
 use bg_reports::Ending;
-use std::fs::File;
-use std::net::Net;
-use std::rt::Files;
-use std::time::Clock;
 
 /// Plays for the player that the options name, and prints the transcript of the match. `is_watched`
 /// says whether the standard error is a terminal.
-pub fn run<R>(rt: &R, options: SeatOptions<'_>, is_watched: bool) -> Result<Ending, Ending>
-where
-    R: Net + Files<File = File> + Clock + Print + Eprint + AllocGlobal,
-{
+pub fn run(rt: &HostRuntime, options: SeatOptions<'_>, is_watched: bool) -> Result<Ending, Ending> {
     let failures = Failures::new();
     let audience = if is_watched {
         Audience::Person
@@ -29,10 +22,7 @@ where
 }
 
 /// Plays until the match is over.
-fn play<R>(rt: &R, seat: &mut Seat<'_, R>) -> Result<Ending, Ending>
-where
-    R: Net + Files<File = File> + Clock + Print + Eprint + AllocGlobal,
-{
+fn play(rt: &HostRuntime, seat: &mut Seat<'_>) -> Result<Ending, Ending> {
     let mut telling = Telling::new();
     for _ in 0..u64::MAX {
         let round = seat.next_round()?;

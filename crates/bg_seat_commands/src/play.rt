@@ -1,5 +1,6 @@
 //! The command of a person who plays at a terminal.
 
+mod answers;
 mod choosing;
 mod help;
 mod joining;
@@ -31,11 +32,7 @@ use bg_options::PlayOptions;
 use bg_processes::{Failures, Going, Opponent};
 use bg_reports::Ending;
 use bg_typed::typed_steps;
-use std::fs::File;
 use std::io::Read;
-use std::net::Net;
-use std::rt::Files;
-use std::time::Clock;
 
 /// Number of typed lines that are obeyed between two rounds, at most.
 const MOST_LINES: u32 = 64;
@@ -48,14 +45,11 @@ const WHICH_LEVEL: &[u8] =
     b"at which level do you resign? Type `normal`, `gammon` or `backgammon`, or Enter alone to play on";
 
 /// Lets a person play for the player that the options name, at this terminal if there is one.
-pub fn run<R>(
-    rt: &R,
+pub fn run(
+    rt: &HostRuntime,
     options: PlayOptions<'_>,
     terminal: Option<Terminal>,
-) -> Result<Ending, Ending>
-where
-    R: Input + Net + Files<File = File> + Clock + Print + Eprint + AllocGlobal,
-{
+) -> Result<Ending, Ending> {
     let failures = Failures::new();
     let seat = Seat::open(rt, &failures, options.seat, true, Audience::Nobody)?;
     let mut table = Table {
@@ -82,11 +76,11 @@ where
 
 /// A person's seat, and what they have been shown.
 #[derive(Drop)]
-struct Table<'a, R> {
-    rt: &'a R,
+struct Table<'a> {
+    rt: &'a HostRuntime,
     player: Player,
-    screen: Screen<'a, R>,
-    seat: Seat<'a, R>,
+    screen: Screen<'a>,
+    seat: Seat<'a>,
     /// Whether a turn that is the only one is played at once.
     plays_forced: bool,
     /// How far the player has come to the table.
@@ -116,10 +110,7 @@ struct Table<'a, R> {
     opponent: Opponent,
 }
 
-impl<'a, R> Table<'a, R>
-where
-    R: Input + Net + Files<File = File> + Clock + Print + Eprint + AllocGlobal,
-{
+impl<'a> Table<'a> {
     fn play(&mut self) -> Result<Ending, Ending> {
         let mut reader = self.rt.reader();
         let mut lines = TypedLines::new(self.rt.alloc());

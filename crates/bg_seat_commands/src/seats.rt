@@ -20,26 +20,22 @@ use bg_reports::Ending;
 use bg_wire::party_of;
 use bg_world::Outcome;
 use std::fs;
-use std::fs::File;
-use std::net::Net;
-use std::rt::Files;
-use std::time::Clock;
 
-type Process<'a, R> = SeatProcess<PartySocket<'a, R>, FileKeeper<'a, R>>;
+type Process<'a> = SeatProcess<PartySocket<'a, HostRuntime>, FileKeeper<'a, HostRuntime>>;
 
 /// A seat that plays, with its ways to wait, and the lock of its folder.
 #[derive(Drop)]
-pub(crate) struct Seat<'a, R> {
-    rt: &'a R,
+pub(crate) struct Seat<'a> {
+    rt: &'a HostRuntime,
     /// The match of its key file.
     pub(crate) table: MatchFile,
-    pub(crate) process: Process<'a, R>,
+    pub(crate) process: Process<'a>,
     /// The names of the players.
     pub(crate) names: Names,
     pub(crate) waiting: Waiting,
     folder: &'a str,
-    reporter: FailureReporter<'a, R>,
-    silence: SilenceReporter<'a, R>,
+    reporter: FailureReporter<'a, HostRuntime>,
+    silence: SilenceReporter<'a>,
     ticking: Ticking,
     liveness: Liveness,
     /// Whether entries that others make for the player are reported by whoever runs the seat.
@@ -67,20 +63,17 @@ pub(crate) struct Round {
     pub(crate) foreign: Option<Number>,
 }
 
-impl<'a, R> Seat<'a, R>
-where
-    R: Net + Files<File = File> + Clock + Eprint + AllocGlobal,
-{
+impl<'a> Seat<'a> {
     /// Opens the seat that the options name, over a folder of its own. Its devices note their
     /// failures in `failures`. It waits for standard input too if `with_input` is set. `audience`
     /// is that of the standard error.
     pub(crate) fn open(
-        rt: &'a R,
+        rt: &'a HostRuntime,
         failures: &'a Failures,
         options: SeatOptions<'a>,
         with_input: bool,
         audience: Audience,
-    ) -> Result<Seat<'a, R>, Ending> {
+    ) -> Result<Seat<'a>, Ending> {
         let SeatOptions {
             player,
             match_path,
@@ -193,17 +186,14 @@ where
 
 /// Locks the folder of a party, which it makes if there is none, and opens the party's socket. Where
 /// there is no socket, a folder that it made is removed again.
-fn folder_and_link<'a, R>(
-    rt: &'a R,
+fn folder_and_link<'a>(
+    rt: &'a HostRuntime,
     folder: &str,
     port: u16,
     party: u8,
     keys: Keyring,
     failures: &'a Failures,
-) -> Result<(FolderLock, PartySocket<'a, R>), Ending>
-where
-    R: Net + Files<File = File> + Clock + Eprint + AllocGlobal,
-{
+) -> Result<(FolderLock, PartySocket<'a, HostRuntime>), Ending> {
     let is_new = fs::metadata(rt, folder).is_err();
     let lock = own_folder(rt, folder)?;
     check_writable(rt, folder)?;

@@ -12,23 +12,19 @@ use bg_reports::Ending;
 use bg_system::Printable;
 use std::fs::File;
 use std::io::ErrorKind;
-use std::rt::Files;
 
 /// The end of the name of a file with headers.
 const ENDING: &str = ".headers";
 
 /// Writes what a match file with this name and these bytes says above its match into a file in a
 /// folder, if it says anything. Reports the first text that is malformed.
-pub(super) fn keep_headers<R>(
-    rt: &R,
+pub(super) fn keep_headers(
+    rt: &HostRuntime,
     folder: &str,
     name: &str,
     bytes: &[u8],
     is_forced: bool,
-) -> Result<(), Ending>
-where
-    R: Files<File = File> + Eprint + AllocGlobal,
-{
+) -> Result<(), Ending> {
     let headers = Headers::read(bytes);
     if let Some(fault) = headers.fault {
         let name = Printable(name);
@@ -45,10 +41,7 @@ where
 
 /// Returns the bytes of the file of headers beside a transcript with this name; none where there is
 /// no such file.
-pub(super) fn bytes_beside<R>(rt: &R, name: &str) -> Result<Vec<u8>, Ending>
-where
-    R: Files<File = File> + Eprint + AllocGlobal,
-{
+pub(super) fn bytes_beside(rt: &HostRuntime, name: &str) -> Result<Vec<u8>, Ending> {
     let alloc = rt.alloc();
     let stem = name.strip_suffix(".txt").unwrap_or(name);
     let path = allocated(rt, format!(in alloc; "{stem}{ENDING}"))?;
@@ -65,14 +58,11 @@ where
 
 /// Returns the headers of the bytes of the file beside a transcript with this name. Reports the
 /// first line that is no header.
-pub(super) fn headers_beside<'b, R>(
-    rt: &R,
+pub(super) fn headers_beside<'b>(
+    rt: &HostRuntime,
     name: &str,
     bytes: &'b [u8],
-) -> Result<HeaderOptions<'b>, Ending>
-where
-    R: Eprint + AllocGlobal,
-{
+) -> Result<HeaderOptions<'b>, Ending> {
     match read_headers(bytes) {
         Ok(headers) => Ok(headers),
         Err(line) => {

@@ -26,14 +26,11 @@ pub(super) fn target_of(
 }
 
 /// Refuses two files of the same name, as the second would overwrite what is written for the first.
-pub(super) fn check_targets<R>(
-    rt: &R,
+pub(super) fn check_targets(
+    rt: &HostRuntime,
     batch: &BatchOptions<'_, '_>,
     endings: NameEndings,
-) -> Result<(), Ending>
-where
-    R: Eprint + AllocGlobal,
-{
+) -> Result<(), Ending> {
     let Ok(targets) = sorted_targets(rt.alloc(), batch, endings) else {
         return Err(no_memory(rt));
     };

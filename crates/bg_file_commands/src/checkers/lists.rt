@@ -3,19 +3,13 @@
 use crate::checkers::Checker;
 use bg_console::{allocated, failed_for, no_memory, say, say_number};
 use bg_reports::{Ending, MOST_SHOWN, harmless};
-use std::fs::File;
 use std::io;
 use std::io::{BufRead, BufReader, Read};
-use std::rt::Files;
-use std::time::Clock;
 
 /// Number of bytes of a line in a list of files, at most: more than the name of any file has.
 const MOST_NAME_BYTES: u64 = 65_536;
 
-impl<'a, R> Checker<'a, R>
-where
-    R: Input + Files<File = File> + Clock + Print + Eprint + AllocGlobal,
-{
+impl<'a> Checker<'a> {
     /// Judges the files of a list, which has one name per line.
     pub(crate) fn check_list(&mut self, list: impl Read + Drop) -> Result<(), Ending> {
         let Ok(mut list) = BufReader::new(self.rt.alloc(), list) else {
@@ -79,6 +73,6 @@ where
 }
 
 /// Reports that the list of files could not be read.
-pub(crate) fn unread_list(rt: &impl Eprint, error: &io::Error) -> Ending {
+pub(crate) fn unread_list(rt: &HostRuntime, error: &io::Error) -> Ending {
     failed_for(rt, "the list of files could not be read", error)
 }

@@ -7,9 +7,7 @@ use bg_match::{Number, Standing};
 use bg_system::{MatchFile, NamedMatch, read_saved};
 use bg_wire::{REFEREE, Slot};
 use std::alloc::Global;
-use std::fs::File;
 use std::os::unix::fs::MetadataExt;
-use std::rt::Files;
 use std::{fs, io};
 
 /// Number of times that a folder is read, at most, until it is sound. A save that is being written
@@ -86,10 +84,7 @@ impl Listed {
 ///
 /// # Errors
 /// `OutOfMemory` alone.
-pub(crate) fn examine<R>(rt: &R, path: String, locks: &Locks) -> io::Result<Listed>
-where
-    R: Files<File = File> + AllocGlobal,
-{
+pub(crate) fn examine(rt: &HostRuntime, path: String, locks: &Locks) -> io::Result<Listed> {
     match match_file_in(rt, path.as_str())? {
         Ok(file) => listing_of(rt, path, file, locks),
         Err(fault) => Ok(Listed::faulty(path, fault.soundness, fault.words)),
@@ -104,10 +99,7 @@ struct MatchFileFault {
 }
 
 /// Reads the match file of a folder, or returns what is wrong with it.
-fn match_file_in<R>(rt: &R, folder: &str) -> io::Result<Result<NamedMatch, MatchFileFault>>
-where
-    R: Files<File = File> + AllocGlobal,
-{
+fn match_file_in(rt: &HostRuntime, folder: &str) -> io::Result<Result<NamedMatch, MatchFileFault>> {
     let name = path_in(rt.alloc(), folder, "match")?;
     Ok(match NamedMatch::read(rt, name.as_str()) {
         Ok(Some(file)) => Ok(file),
@@ -132,10 +124,12 @@ fn unread_words(alloc: Global, name: &str, error: io::Error) -> io::Result<Strin
 }
 
 /// Returns the listing of a folder with this match file.
-fn listing_of<R>(rt: &R, path: String, file: NamedMatch, locks: &Locks) -> io::Result<Listed>
-where
-    R: Files<File = File> + AllocGlobal,
-{
+fn listing_of(
+    rt: &HostRuntime,
+    path: String,
+    file: NamedMatch,
+    locks: &Locks,
+) -> io::Result<Listed> {
     let held = settled(rt, path.as_str(), &file.table)?;
     let changed = change_of(rt, path.as_str())?;
     let is_open = locks.have(rt, path.as_str())?;
@@ -155,14 +149,11 @@ where
 ///
 /// # Errors
 /// `OutOfMemory` alone.
-pub(crate) fn standing_in<R>(
-    rt: &R,
+pub(crate) fn standing_in(
+    rt: &HostRuntime,
     folder: &str,
     table: &MatchFile,
-) -> io::Result<Option<Standing>>
-where
-    R: Files<File = File> + AllocGlobal,
-{
+) -> io::Result<Option<Standing>> {
     match settled(rt, folder, table) {
         Ok(held) => Ok(held.standing),
         Err(error) => Err(error),
@@ -170,10 +161,7 @@ where
 }
 
 /// Returns what the saves of a folder hold, leaving out a save that is being written.
-fn settled<R>(rt: &R, folder: &str, table: &MatchFile) -> io::Result<Held>
-where
-    R: Files<File = File> + AllocGlobal,
-{
+fn settled(rt: &HostRuntime, folder: &str, table: &MatchFile) -> io::Result<Held> {
     let mut held = read(rt, folder, table)?;
     for _ in 1..MOST_READS {
         if held.soundness == Soundness::Sound {
@@ -185,10 +173,7 @@ where
 }
 
 /// Returns what the saves of a folder hold.
-fn read<R>(rt: &R, folder: &str, table: &MatchFile) -> io::Result<Held>
-where
-    R: Files<File = File> + AllocGlobal,
-{
+fn read(rt: &HostRuntime, folder: &str, table: &MatchFile) -> io::Result<Held> {
     let zero = match bytes_of(rt, folder, Slot::Zero)? {
         Ok(bytes) => bytes,
         Err(fault) => return Ok(Held::unread(fault)),
@@ -201,10 +186,7 @@ where
 }
 
 /// Reads the bytes of one of the referee's files, or returns why it can't be read.
-fn bytes_of<R>(rt: &R, folder: &str, slot: Slot) -> io::Result<Result<Vec<u8>, String>>
-where
-    R: Files<File = File> + AllocGlobal,
-{
+fn bytes_of(rt: &HostRuntime, folder: &str, slot: Slot) -> io::Result<Result<Vec<u8>, String>> {
     let path = slot_path(rt.alloc(), folder, REFEREE, slot)?;
     match read_saved(rt, path.as_str()) {
         Ok(bytes) => Ok(Ok(bytes)),
@@ -219,20 +201,14 @@ where
 }
 
 /// Returns the time when the newer of the referee's files was written, in seconds since 1970.
-fn change_of<R>(rt: &R, folder: &str) -> io::Result<Option<u64>>
-where
-    R: Files<File = File> + AllocGlobal,
-{
+fn change_of(rt: &HostRuntime, folder: &str) -> io::Result<Option<u64>> {
     let zero = time_of(rt, folder, Slot::Zero)?;
     let one = time_of(rt, folder, Slot::One)?;
     Ok(zero.max(one))
 }
 
 /// Returns the time when one of the referee's files was written, in seconds since 1970.
-fn time_of<R>(rt: &R, folder: &str, slot: Slot) -> io::Result<Option<u64>>
-where
-    R: Files<File = File> + AllocGlobal,
-{
+fn time_of(rt: &HostRuntime, folder: &str, slot: Slot) -> io::Result<Option<u64>> {
     let path = slot_path(rt.alloc(), folder, REFEREE, slot)?;
     match fs::metadata(rt, path.as_str()) {
         Ok(found) => Ok(u64::try_from(found.mtime()).ok()),

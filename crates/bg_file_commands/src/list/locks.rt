@@ -1,8 +1,6 @@
 //! The folders that are locked.
 
-use std::fs::File;
 use std::os::unix::fs::MetadataExt;
-use std::rt::Files;
 use std::{fs, io};
 
 /// The file in which the system lists its locks.
@@ -18,10 +16,7 @@ pub(crate) struct Locks {
 
 impl Locks {
     /// Reads the locks; there are none where the system doesn't list them.
-    pub(crate) fn read<R>(rt: &R) -> Locks
-    where
-        R: Files<File = File> + AllocGlobal,
-    {
+    pub(crate) fn read(rt: &HostRuntime) -> Locks {
         let told = match fs::read_to_string(rt, LOCKS) {
             Ok(told) => told,
             Err(_) => String::new(rt.alloc()),
@@ -33,10 +28,7 @@ impl Locks {
     ///
     /// # Errors
     /// `OutOfMemory` alone.
-    pub(crate) fn have<R>(&self, rt: &R, folder: &str) -> io::Result<bool>
-    where
-        R: Files<File = File> + AllocGlobal,
-    {
+    pub(crate) fn have(&self, rt: &HostRuntime, folder: &str) -> io::Result<bool> {
         let Ok(found) = fs::metadata(rt, folder) else {
             return Ok(false);
         };

@@ -7,32 +7,23 @@ use bg_options::BoardOptions;
 use bg_picture::{begin_index, begin_section, end_index, end_section};
 use bg_reports::Ending;
 use std::alloc::{AllocError, Global};
-use std::fs::File;
-use std::rt::Files;
 
 /// Number of seconds after which a browser asks for a newer index.
 const INDEX_SECONDS: u16 = 5;
 
 /// Writes the index of matches.
-pub(crate) fn write_index<R>(
-    rt: &R,
+pub(crate) fn write_index(
+    rt: &HostRuntime,
     options: &BoardOptions<'_, '_>,
-    matches: &[BoardMatch<'_, R>],
-) -> Result<(), Ending>
-where
-    R: Files<File = File> + Eprint + AllocGlobal,
-{
+    matches: &[BoardMatch<'_>],
+) -> Result<(), Ending> {
     let index = allocated(rt, index_of(rt.alloc(), options.title, matches))?;
     let path = allocated(rt, path_in(rt.alloc(), options.out, "index.html"))?;
     put(rt, path.as_str(), &index)
 }
 
 /// Returns the index of matches.
-fn index_of<R>(
-    alloc: Global,
-    title: &str,
-    matches: &[BoardMatch<'_, R>],
-) -> Result<Vec<u8>, AllocError> {
+fn index_of(alloc: Global, title: &str, matches: &[BoardMatch<'_>]) -> Result<Vec<u8>, AllocError> {
     let mut index = Vec::new(alloc);
     begin_index(&mut index, title, INDEX_SECONDS)?;
     put_section(alloc, &mut index, "live", matches, false)?;
@@ -42,11 +33,11 @@ fn index_of<R>(
 }
 
 /// Appends the matches that are over, or those that are not.
-fn put_section<R>(
+fn put_section(
     alloc: Global,
     index: &mut Vec<u8>,
     words: &str,
-    matches: &[BoardMatch<'_, R>],
+    matches: &[BoardMatch<'_>],
     over: bool,
 ) -> Result<(), AllocError> {
     begin_section(index, words)?;

@@ -16,12 +16,12 @@ pub(crate) fn place_of_key_file(path: &str) -> &str {
 }
 
 /// Returns a name for the files of a match that no other match has.
-pub(crate) fn free_name<R>(
+pub(crate) fn free_name(
     alloc: Global,
     searched: &str,
     path: &str,
     id: u64,
-    others: &[BoardMatch<'_, R>],
+    others: &[BoardMatch<'_>],
 ) -> Result<String, AllocError> {
     let name = name_of(alloc, searched, path, id, false)?;
     let is_taken = others

@@ -4,15 +4,10 @@ use bg_console::failed_at;
 use bg_processes::publish;
 use bg_reports::Ending;
 use std::fs;
-use std::fs::File;
-use std::rt::Files;
 
 /// Writes a text to a file, unless it has this text already. Reports where it can't, and ends with
 /// `Failed`.
-pub(crate) fn put<R>(rt: &R, path: &str, text: &[u8]) -> Result<(), Ending>
-where
-    R: Files<File = File> + Eprint + AllocGlobal,
-{
+pub(crate) fn put(rt: &HostRuntime, path: &str, text: &[u8]) -> Result<(), Ending> {
     if let Ok(old) = fs::read(rt, path) {
         if old.as_slice() == text {
             return Ok(());

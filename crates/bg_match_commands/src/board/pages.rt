@@ -7,8 +7,6 @@ use bg_picture::{IndexMatch, Numbering, page_text, picture_text, put_match};
 use bg_processes::Names;
 use bg_reports::Ending;
 use std::alloc::{AllocError, Global};
-use std::fs::File;
-use std::rt::Files;
 
 /// Number of seconds after which a browser asks for a newer page of a running match.
 const PAGE_SECONDS: u16 = 5;
@@ -50,15 +48,12 @@ impl Pages {
     }
 
     /// Writes the pages of a record, where they don't show it yet. Returns whether they didn't.
-    pub(crate) fn show<R>(
+    pub(crate) fn show(
         &mut self,
-        rt: &R,
+        rt: &HostRuntime,
         place: Place<'_>,
         record: &Record,
-    ) -> Result<bool, Ending>
-    where
-        R: Files<File = File> + Eprint + AllocGlobal,
-    {
+    ) -> Result<bool, Ending> {
         let seen = Some((record.standing(), record.len()));
         if self.seen == seen {
             return Ok(false);
@@ -70,10 +65,12 @@ impl Pages {
     }
 
     /// Writes the page of a record.
-    fn write_page<R>(&self, rt: &R, place: Place<'_>, record: &Record) -> Result<(), Ending>
-    where
-        R: Files<File = File> + Eprint + AllocGlobal,
-    {
+    fn write_page(
+        &self,
+        rt: &HostRuntime,
+        place: Place<'_>,
+        record: &Record,
+    ) -> Result<(), Ending> {
         let seconds = if self.is_over() { 0 } else { PAGE_SECONDS };
         let title = allocated(rt, self.title(rt.alloc()))?;
         let words = page_words(title.as_str(), &self.names);
@@ -82,25 +79,24 @@ impl Pages {
     }
 
     /// Writes the picture of where a record stands.
-    fn write_picture<R>(&self, rt: &R, place: Place<'_>, record: &Record) -> Result<(), Ending>
-    where
-        R: Files<File = File> + Eprint + AllocGlobal,
-    {
+    fn write_picture(
+        &self,
+        rt: &HostRuntime,
+        place: Place<'_>,
+        record: &Record,
+    ) -> Result<(), Ending> {
         let picture = picture_text(rt.alloc(), &record.standing(), place.numbering);
         self.put(rt, place, ".svg", picture)
     }
 
     /// Writes a text into the file with this end of its name.
-    fn put<R>(
+    fn put(
         &self,
-        rt: &R,
+        rt: &HostRuntime,
         place: Place<'_>,
         ending: &str,
         text: Result<Vec<u8>, AllocError>,
-    ) -> Result<(), Ending>
-    where
-        R: Files<File = File> + Eprint + AllocGlobal,
-    {
+    ) -> Result<(), Ending> {
         let text = allocated(rt, text)?;
         let (out, name) = (place.out, self.name.as_str());
         let path = allocated(rt, format!(in rt.alloc(); "{out}/{name}{ending}"))?;

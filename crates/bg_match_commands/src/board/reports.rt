@@ -5,24 +5,17 @@ use bg_console::{allocated, key_file_of, match_of, no_memory, say_of, say_why};
 use bg_processes::{Failures, KeyFile, NamedMatch};
 use bg_reports::Ending;
 use bg_wire::FIRST_WATCHER;
-use std::fs::File;
-use std::net::Net;
-use std::rt::Files;
-use std::time::Clock;
 
 /// The files and folders of which it was reported what is wrong.
 #[derive(Drop)]
-pub(crate) struct Reports<'a, R> {
-    rt: &'a R,
+pub(crate) struct Reports<'a> {
+    rt: &'a HostRuntime,
     reported: Vec<String>,
 }
 
-impl<'a, R> Reports<'a, R>
-where
-    R: Net + Files<File = File> + Clock + Eprint + AllocGlobal,
-{
+impl<'a> Reports<'a> {
     /// Creates the state before anything was reported.
-    pub(crate) fn new(rt: &'a R) -> Reports<'a, R> {
+    pub(crate) fn new(rt: &'a HostRuntime) -> Reports<'a> {
         Reports {
             rt,
             reported: Vec::new(rt.alloc()),
@@ -59,7 +52,7 @@ where
         path: &str,
         file: &KeyFile,
         failures: &'a Failures,
-    ) -> Result<Option<Watcher<'a, R>>, Ending> {
+    ) -> Result<Option<Watcher<'a>>, Ending> {
         match begin_watcher(self.rt, path, &file.table, &file.key, failures) {
             Ok((_, process)) => Ok(Some(process)),
             Err(fault) => {

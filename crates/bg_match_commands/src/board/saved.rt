@@ -8,9 +8,7 @@ use bg_processes::{MatchFile, read_saved};
 use bg_reports::Ending;
 use bg_wire::{REFEREE, restore};
 use std::alloc::{AllocError, Global};
-use std::fs::File;
 use std::io;
-use std::rt::Files;
 
 /// Number of looks, after the last change of a match's files, at which they are read again while
 /// the pages are kept. A file that is written while it is read may keep the time at which it was
@@ -59,15 +57,12 @@ impl SavedMatch {
 
     /// Looks at the saved files, and writes the pages where these have something new. Returns
     /// whether they had.
-    pub(crate) fn look<R>(
+    pub(crate) fn look(
         &mut self,
-        rt: &R,
+        rt: &HostRuntime,
         place: Place<'_>,
         pages: &mut Pages,
-    ) -> Result<bool, Ending>
-    where
-        R: Files<File = File> + Eprint + AllocGlobal,
-    {
+    ) -> Result<bool, Ending> {
         if !self.is_to_be_read(rt) {
             return Ok(false);
         }
@@ -85,7 +80,7 @@ impl SavedMatch {
 
     /// Reports once that the saved files can't be read, at the last look at them: a save that is
     /// being written can look torn.
-    fn report(&mut self, rt: &impl Eprint) {
+    fn report(&mut self, rt: &HostRuntime) {
         if !self.is_reported && self.looks_left == 0 {
             self.is_reported = true;
             say_of(rt, self.folder.as_str(), " has saves that can't be read");
@@ -93,7 +88,7 @@ impl SavedMatch {
     }
 
     /// Returns whether the saved files have changed since the last look, or shortly before it.
-    fn is_to_be_read(&mut self, rt: &impl Files<File = File>) -> bool {
+    fn is_to_be_read(&mut self, rt: &HostRuntime) -> bool {
         let stamps = Some(self.saved.stamps(rt));
         if self.stamps != stamps {
             self.stamps = stamps;
@@ -107,10 +102,11 @@ impl SavedMatch {
 }
 
 /// Returns the record that the saved files of a match hold, or nothing where they can't be read.
-fn record_of<R>(rt: &R, table: &MatchFile, saved: &SavedFiles) -> Result<Option<Record>, Ending>
-where
-    R: Files<File = File> + Eprint + AllocGlobal,
-{
+fn record_of(
+    rt: &HostRuntime,
+    table: &MatchFile,
+    saved: &SavedFiles,
+) -> Result<Option<Record>, Ending> {
     let Some(zero) = bytes_of(rt, saved.zero.as_str())? else {
         return Ok(None);
     };
@@ -130,10 +126,7 @@ where
 
 /// Returns the bytes of a saved file, without any where it is missing, or nothing where it can't be
 /// read.
-fn bytes_of<R>(rt: &R, path: &str) -> Result<Option<Vec<u8>>, Ending>
-where
-    R: Files<File = File> + Eprint + AllocGlobal,
-{
+fn bytes_of(rt: &HostRuntime, path: &str) -> Result<Option<Vec<u8>>, Ending> {
     match read_saved(rt, path) {
         Ok(bytes) => Ok(Some(bytes)),
         Err(error) if error.kind() == io::ErrorKind::OutOfMemory => Err(no_memory(rt)),

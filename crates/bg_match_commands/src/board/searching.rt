@@ -10,13 +10,9 @@ use crate::board::watched::WatchedMatch;
 use bg_console::{
     Finding, MatchBelow, NO_MATCH, allocated, matches_below, no_memory, path_in, say_of, say_why,
 };
-use bg_processes::{Failures, NamedMatch};
+use bg_processes::{Failures, NamedMatch, Names};
 use bg_reports::Ending;
 use std::fs;
-use std::fs::File;
-use std::net::Net;
-use std::rt::Files;
-use std::time::Clock;
 
 /// The message behind the name of a key file where each file is written once.
 const LEFT_OUT: &str = " is left out: a match is watched by its key file only without --once";
@@ -35,8 +31,8 @@ struct Met<'p> {
 
 /// A search for matches, which is run again and again.
 #[derive(Drop)]
-pub(crate) struct Search<'a, 'm, 's, R> {
-    rt: &'a R,
+pub(crate) struct Search<'a, 'm, 's> {
+    rt: &'a HostRuntime,
     /// The sockets of watchers note their failures here.
     failures: &'a Failures,
     /// The folders that are searched, and key files.
@@ -44,22 +40,19 @@ pub(crate) struct Search<'a, 'm, 's, R> {
     /// Whether each file is written once, so that no match is watched.
     is_once: bool,
     /// What was reported of files and folders.
-    reports: Reports<'a, R>,
+    reports: Reports<'a>,
     /// Whether the current run has found another match, or one that is gone or changed.
     is_changed: bool,
 }
 
-impl<'a, 'm, 's, R> Search<'a, 'm, 's, R>
-where
-    R: Net + Files<File = File> + Clock + Eprint + AllocGlobal,
-{
+impl<'a, 'm, 's> Search<'a, 'm, 's> {
     /// Creates a search in these folders, and for the matches of these key files.
     pub(crate) fn new(
-        rt: &'a R,
+        rt: &'a HostRuntime,
         failures: &'a Failures,
         places: &'m [&'s str],
         is_once: bool,
-    ) -> Search<'a, 'm, 's, R> {
+    ) -> Search<'a, 'm, 's> {
         Search {
             rt,
             failures,
@@ -73,7 +66,7 @@ where
     /// Searches for matches. Keeps what is known of those that are still there, sorted by the paths
     /// of their files. Reports once what is wrong with a file or a folder. Returns whether the
     /// matches are others than before.
-    pub(crate) fn run(&mut self, matches: &mut Vec<BoardMatch<'a, R>>) -> Result<bool, Ending> {
+    pub(crate) fn run(&mut self, matches: &mut Vec<BoardMatch<'a>>) -> Result<bool, Ending> {
         self.is_changed = false;
         for one in matches.iter_mut() {
             one.is_found = false;
@@ -88,7 +81,7 @@ where
         let known = matches.len();
         matches.retain(|one| one.is_found);
         if self.is_changed {
-            let sorted = matches.sort_by(|one: &BoardMatch<R>, other: &BoardMatch<R>| one
+            let sorted = matches.sort_by(|one: &BoardMatch, other: &BoardMatch| one
                 .path
                 .as_str()
                 .cmp(other.path.as_str()));
@@ -98,11 +91,7 @@ where
     }
 
     /// Searches for matches in a folder and below it.
-    fn search_in(
-        &mut self,
-        folder: &str,
-        matches: &mut Vec<BoardMatch<'a, R>>,
-    ) -> Result<(), Ending> {
+    fn search_in(&mut self, folder: &str, matches: &mut Vec<BoardMatch<'a>>) -> Result<(), Ending> {
         let found = match matches_below(self.rt, folder) {
             Ok(found) => found,
             Err(_) => return Err(no_memory(self.rt)),
@@ -121,7 +110,7 @@ where
         &mut self,
         searched: &str,
         place: &MatchBelow,
-        matches: &mut Vec<BoardMatch<'a, R>>,
+        matches: &mut Vec<BoardMatch<'a>>,
     ) -> Result<(), Ending> {
         let folder = place.path.as_str();
         match &place.finding {
@@ -144,20 +133,20 @@ where
         &mut self,
         searched: &str,
         folder: &str,
-        matches: &mut Vec<BoardMatch<'a, R>>,
+        matches: &mut Vec<BoardMatch<'a>>,
     ) -> Result<(), Ending> {
         let path = allocated(self.rt, path_in(self.rt.alloc(), folder, "match"))?;
         let met = self.met(searched, folder, path.as_str());
         if self.is_known(met, matches) {
             return Ok(());
         }
-        let Some(file) = self.reports.match_file_at(met.path)? else {
+        let Some(NamedMatch { table, names }) = self.reports.match_file_at(met.path)? else {
             return Ok(());
         };
         let looks = if self.is_once { 0 } else { LOOKS_AFTER_CHANGE };
-        let saved = SavedMatch::of(self.rt.alloc(), folder, file.table, looks);
+        let saved = SavedMatch::of(self.rt.alloc(), folder, table, looks);
         let origin = Origin::Saved(allocated(self.rt, saved)?);
-        self.add(met, &file, origin, matches)
+        self.add(met, table.id, names, origin, matches)
     }
 
     /// Meets a key file, whose match is kept unless it is none of those who watch.
@@ -165,7 +154,7 @@ where
         &mut self,
         searched: &str,
         path: &str,
-        matches: &mut Vec<BoardMatch<'a, R>>,
+        matches: &mut Vec<BoardMatch<'a>>,
     ) -> Result<(), Ending> {
         if self.is_once {
             if self.reports.is_news(path)? {
@@ -184,7 +173,8 @@ where
             return Ok(());
         };
         let origin = Origin::Watched(WatchedMatch::new(process));
-        self.add(met, &file.named_match(), origin, matches)
+        let NamedMatch { table, names } = file.named_match();
+        self.add(met, table.id, names, origin, matches)
     }
 
     /// Returns a file that was met, as it is now.
@@ -199,7 +189,7 @@ where
 
     /// Returns whether the match of a file is known as the file is now, and notes that it was
     /// found. Forgets a match whose file has changed, or whose watcher can't go on.
-    fn is_known(&mut self, met: Met<'_>, matches: &mut Vec<BoardMatch<'a, R>>) -> bool {
+    fn is_known(&mut self, met: Met<'_>, matches: &mut Vec<BoardMatch<'a>>) -> bool {
         for one in matches.iter_mut() {
             if one.path.as_str() == met.path && one.is_current(&met.stamp) {
                 one.is_found = true;
@@ -212,22 +202,23 @@ where
         false
     }
 
-    /// Adds the match of a file that was met. Its pages have a name that those of the other matches
-    /// don't have.
+    /// Adds the match with this number, whose file was met. Its pages have a name that those of the
+    /// other matches don't have.
     fn add(
         &mut self,
         met: Met<'_>,
-        file: &NamedMatch,
-        origin: Origin<'a, R>,
-        matches: &mut Vec<BoardMatch<'a, R>>,
+        id: u64,
+        names: Names,
+        origin: Origin<'a>,
+        matches: &mut Vec<BoardMatch<'a>>,
     ) -> Result<(), Ending> {
         let alloc = self.rt.alloc();
-        let name = free_name(alloc, met.searched, met.place, file.table.id, matches);
+        let name = free_name(alloc, met.searched, met.place, id, matches);
         let name = allocated(self.rt, name)?;
         let one = BoardMatch {
             path: allocated(self.rt, String::from_str(alloc, met.path))?,
             stamp: met.stamp,
-            pages: Pages::new(name, file.names),
+            pages: Pages::new(name, names),
             origin,
             is_found: true,
         };
@@ -241,6 +232,6 @@ where
 }
 
 /// Returns whether a path is that of a file, as of a key file.
-fn is_file(rt: &impl Files<File = File>, path: &str) -> bool {
+fn is_file(rt: &HostRuntime, path: &str) -> bool {
     fs::metadata(rt, path).is_ok_and(|found| found.is_file())
 }

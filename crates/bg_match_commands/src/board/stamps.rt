@@ -4,9 +4,7 @@ use bg_console::slot_path;
 use bg_wire::{REFEREE, Slot};
 use std::alloc::{AllocError, Global};
 use std::fs;
-use std::fs::File;
 use std::os::unix::fs::MetadataExt;
-use std::rt::Files;
 
 /// The paths of a referee's two saved files.
 #[derive(Drop)]
@@ -44,7 +42,7 @@ impl SavedFiles {
     }
 
     /// Returns the stamps that the files have now.
-    pub(crate) fn stamps(&self, rt: &impl Files<File = File>) -> Stamps {
+    pub(crate) fn stamps(&self, rt: &HostRuntime) -> Stamps {
         Stamps {
             zero: stamp_of(rt, self.zero.as_str()),
             one: stamp_of(rt, self.one.as_str()),
@@ -53,7 +51,7 @@ impl SavedFiles {
 }
 
 /// Returns the stamp of a file.
-pub(crate) fn stamp_of(rt: &impl Files<File = File>, path: &str) -> Option<FileStamp> {
+pub(crate) fn stamp_of(rt: &HostRuntime, path: &str) -> Option<FileStamp> {
     let found = fs::metadata(rt, path).ok()?;
     Some(FileStamp {
         inode: found.ino(),

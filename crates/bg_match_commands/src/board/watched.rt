@@ -9,9 +9,6 @@ use bg_match::Number;
 use bg_processes::{Going, Liveness, LivenessChange};
 use bg_reports::Ending;
 use bg_world::{Event, Outcome};
-use std::fs::File;
-use std::rt::Files;
-use std::time::Clock;
 
 /// Number of looks after which a match without an entry is shown. What its referee has may still be
 /// on its way, and the pages of an earlier process may show it.
@@ -19,8 +16,8 @@ const LOOKS_WITHOUT_ENTRY: u8 = 5;
 
 /// A watcher, and what was heard of its match.
 #[derive(Drop)]
-pub(crate) struct WatchedMatch<'a, R> {
-    process: Watcher<'a, R>,
+pub(crate) struct WatchedMatch<'a> {
+    process: Watcher<'a>,
     liveness: Liveness,
     doubts: Doubts,
     /// Number of looks without an entry since the referee was heard.
@@ -42,9 +39,9 @@ impl Observer for Doubts {
     fn played(&mut self, _done: u32) {}
 }
 
-impl<'a, R> WatchedMatch<'a, R> {
+impl<'a> WatchedMatch<'a> {
     /// Creates the state of a match whose watcher has begun.
-    pub(crate) fn new(process: Watcher<'a, R>) -> WatchedMatch<'a, R> {
+    pub(crate) fn new(process: Watcher<'a>) -> WatchedMatch<'a> {
         WatchedMatch {
             process,
             liveness: Liveness::new(),
@@ -61,10 +58,7 @@ impl<'a, R> WatchedMatch<'a, R> {
     }
 
     /// Runs a round of the watcher, unless its match is over. Reports whether the referee is heard.
-    pub(crate) fn go_on(&mut self, rt: &R, path: &str)
-    where
-        R: Clock + Eprint,
-    {
+    pub(crate) fn go_on(&mut self, rt: &HostRuntime, path: &str) {
         if self.is_over || self.doubts.is_cut_off {
             return;
         }
@@ -91,13 +85,10 @@ impl<'a, R> WatchedMatch<'a, R> {
     /// before the referee was heard.
     pub(crate) fn look(
         &mut self,
-        rt: &R,
+        rt: &HostRuntime,
         place: Place<'_>,
         pages: &mut Pages,
-    ) -> Result<bool, Ending>
-    where
-        R: Files<File = File> + Clock + Eprint + AllocGlobal,
-    {
+    ) -> Result<bool, Ending> {
         if self.process.link().heard() == 0 {
             return Ok(false);
         }

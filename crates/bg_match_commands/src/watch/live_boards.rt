@@ -10,8 +10,6 @@ use bg_reports::Ending;
 use bg_world::{Event, Outcome, outcome_text};
 use std::alloc::Global;
 use std::fmt::{Display, Formatter, Write};
-use std::fs::File;
-use std::rt::Files;
 use std::{fmt, io};
 
 /// The message where parties can't go on together.
@@ -42,8 +40,8 @@ impl Display for Referee {
 /// The board of a match on a terminal, with the newest entries below it, which is redrawn when
 /// something changes. Errors are shown in a line of it, so that nothing tears the screen.
 #[derive(Drop)]
-pub(super) struct LiveBoard<'a, R> {
-    rt: &'a R,
+pub(super) struct LiveBoard<'a> {
+    rt: &'a HostRuntime,
     terminal: Terminal,
     failures: &'a Failures,
     /// Whether the standard error is another place than the terminal, so that errors are printed
@@ -65,17 +63,17 @@ pub(super) struct LiveBoard<'a, R> {
     is_old: bool,
 }
 
-impl<'a, R: Files<File = File> + Print + Eprint + AllocGlobal> LiveBoard<'a, R> {
+impl<'a> LiveBoard<'a> {
     /// Creates the board of this record on a terminal, where nothing is drawn yet. Devices note
     /// their failures in `failures`, and `file` is the contents of the key file.
     pub(super) fn new(
-        rt: &'a R,
+        rt: &'a HostRuntime,
         terminal: Terminal,
         failures: &'a Failures,
         says_too: bool,
         file: NamedMatch,
         record: &Record,
-    ) -> LiveBoard<'a, R> {
+    ) -> LiveBoard<'a> {
         LiveBoard {
             rt,
             terminal,
@@ -202,7 +200,7 @@ impl<'a, R: Files<File = File> + Print + Eprint + AllocGlobal> LiveBoard<'a, R> 
     }
 }
 
-impl<'a, R: Files<File = File> + Print + Eprint + AllocGlobal> Observer for LiveBoard<'a, R> {
+impl<'a> Observer for LiveBoard<'a> {
     fn happened(&mut self, event: &Event, outcome: &Outcome, _held: Option<Number>) {
         let alloc = self.rt.alloc();
         for failure in self.failures.drain() {

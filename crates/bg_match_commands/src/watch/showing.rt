@@ -8,25 +8,23 @@ use bg_match::{Number, Record};
 use bg_processes::LivenessChange;
 use bg_reports::Ending;
 use bg_world::{Event, Outcome};
-use std::fs::File;
-use std::rt::Files;
 
 /// The lines of a transcript, as they come.
 #[derive(Drop)]
-pub(super) struct Lines<'a, R> {
-    pub(super) rt: &'a R,
+pub(super) struct Lines<'a> {
+    pub(super) rt: &'a HostRuntime,
     pub(super) telling: Telling,
-    pub(super) reporter: FailureReporter<'a, R>,
+    pub(super) reporter: FailureReporter<'a, HostRuntime>,
 }
 
 /// The way in which a match is shown: its transcript, or a board that is redrawn.
 #[derive(Drop)]
-pub(super) enum Showing<'a, R> {
-    Lines(Lines<'a, R>),
-    Board(LiveBoard<'a, R>),
+pub(super) enum Showing<'a> {
+    Lines(Lines<'a>),
+    Board(LiveBoard<'a>),
 }
 
-impl<'a, R: Files<File = File> + Print + Eprint + AllocGlobal> Showing<'a, R> {
+impl<'a> Showing<'a> {
     /// Shows what a round brought, and returns whether there were new entries.
     pub(super) fn go_on(
         &mut self,
@@ -49,7 +47,7 @@ impl<'a, R: Files<File = File> + Print + Eprint + AllocGlobal> Showing<'a, R> {
     }
 }
 
-impl<'a, R: Files<File = File> + Print + Eprint + AllocGlobal> Observer for Showing<'a, R> {
+impl<'a> Observer for Showing<'a> {
     fn happened(&mut self, event: &Event, outcome: &Outcome, held: Option<Number>) {
         match self {
             Showing::Lines(lines) => lines.reporter.happened(event, outcome, held),

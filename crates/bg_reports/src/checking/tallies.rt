@@ -1,6 +1,6 @@
 //! The results of many files.
 ghost use Rattle.std.specs.Prelude.{◌≡◌};
-ghost use Rattle.bg_reports.specs.Ending.{worst_of};
+ghost use Rattle.bg_reports.specs.Ending.{files_in, worst_of};
 
 use crate::endings::Found;
 use std::fmt;
@@ -19,8 +19,10 @@ pub struct Tally {
 }
 
 impl Tally {
-    /// Returns the number of files.
-    pub fn files(self) -> u64 {
+    /// Returns the number of files, at most 18446744073709551615.
+    pub fn files(self) -> u64
+        ensures { result ≡ files_in self.good self.refused self.unjudged }
+    {
         self.good
             .saturating_add(self.refused)
             .saturating_add(self.unjudged)

@@ -7,10 +7,6 @@ use bg_party::ChooseFault;
 use bg_reports::Ending;
 use bg_table::{offered, refusal_text};
 use bg_world::{Outcome, outcome_text};
-use std::fs::File;
-use std::net::Net;
-use std::rt::Files;
-use std::time::Clock;
 
 /// The messages on a choice that can't be sent yet, that could not be saved, and that can't be
 /// made.
@@ -20,10 +16,7 @@ const UNSAVED: &[u8] = b"your choice could not be saved, and was not made: choos
 
 const STANDS_STILL: &[u8] = b"nothing can be chosen until your files can be read again";
 
-impl<'a, R> Table<'a, R>
-where
-    R: Input + Net + Files<File = File> + Clock + Print + Eprint + AllocGlobal,
-{
+impl<'a> Table<'a> {
     /// Returns whether no choice waits for the referee.
     pub(super) fn claims_nothing(&self) -> bool {
         self.seat.process.open_claim().is_none()

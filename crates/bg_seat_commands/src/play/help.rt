@@ -5,10 +5,6 @@ use bg_console::{allocated, broken};
 use bg_reports::Ending;
 use bg_text::put_text;
 use std::alloc::{AllocError, Global};
-use std::fs::File;
-use std::net::Net;
-use std::rt::Files;
-use std::time::Clock;
 
 /// The lines that can be typed on the player's turn, each with its meaning.
 const ON_TURN: [(&str, &str); 7] = [
@@ -51,10 +47,7 @@ const FIRST: usize = 2;
 
 const FURTHER: usize = 6;
 
-impl<'a, R> Table<'a, R>
-where
-    R: Input + Net + Files<File = File> + Clock + Print + Eprint + AllocGlobal,
-{
+impl<'a> Table<'a> {
     /// Prints the help on what may be typed.
     pub(super) fn help(&self) -> Result<(), Ending> {
         let columns = self.screen.columns.min(MOST_COLUMNS);

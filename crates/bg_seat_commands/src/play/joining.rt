@@ -4,10 +4,6 @@ use crate::play::Table;
 use crate::seats::Round;
 use bg_processes::Going;
 use bg_reports::Ending;
-use std::fs::File;
-use std::net::Net;
-use std::rt::Files;
-use std::time::Clock;
 
 /// Number of ticks for which a player who comes waits for what the referee has, at most.
 const TICKS_TO_WAIT: u32 = 10;
@@ -27,10 +23,7 @@ pub(super) enum Joining {
     Joined,
 }
 
-impl<'a, R> Table<'a, R>
-where
-    R: Input + Net + Files<File = File> + Clock + Print + Eprint + AllocGlobal,
-{
+impl<'a> Table<'a> {
     /// Returns whether the board was shown.
     pub(super) fn is_seated(&self) -> bool {
         !matches!(self.joining, Joining::Waiting(_))

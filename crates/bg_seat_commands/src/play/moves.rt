@@ -14,10 +14,6 @@ use bg_reports::Ending;
 use bg_table::turn_refusal_text;
 use bg_turns::{Dice, Turn, TurnFault, judge_turn};
 use bg_typed::{TypedFault, fits_marks, read_turn, typed_steps};
-use std::fs::File;
-use std::net::Net;
-use std::rt::Files;
-use std::time::Clock;
 
 /// The message on a line that is none of those that may be typed.
 const NOT_UNDERSTOOD: &str = "that is not understood: `help` lists what may be typed";
@@ -30,10 +26,7 @@ const WRONG_HITS: &str =
 
 const SEVERAL_TURNS: &[u8] = b"several turns are legal: `legal` lists them";
 
-impl<'a, R> Table<'a, R>
-where
-    R: Input + Net + Files<File = File> + Clock + Print + Eprint + AllocGlobal,
-{
+impl<'a> Table<'a> {
     /// Returns the board and the dice that the player is to move, if there are any.
     pub(super) fn to_move(&self) -> Option<(Board, Dice)> {
         let standing = self.seat.process.held()?.standing();

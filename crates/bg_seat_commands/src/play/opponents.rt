@@ -8,15 +8,8 @@ use bg_processes::OpponentChange;
 use bg_reports::Ending;
 use bg_text::{letter, put_text};
 use std::alloc::{AllocError, Global};
-use std::fs::File;
-use std::net::Net;
-use std::rt::Files;
-use std::time::Clock;
 
-impl<'a, R> Table<'a, R>
-where
-    R: Input + Net + Files<File = File> + Clock + Print + Eprint + AllocGlobal,
-{
+impl<'a> Table<'a> {
     /// Prints whether the other player has come, left or returned, where there is news of that.
     /// Returns whether there was.
     pub(super) fn tell_of_opponent(&mut self) -> Result<bool, Ending> {

@@ -20,17 +20,21 @@ const COLUMNS_OF_ROWS: usize = 51;
 
 /// A screen, its numbers of columns and lines, and whether it has colours.
 #[derive(Drop)]
-pub(crate) struct Screen<'a, R> {
-    rt: &'a R,
+pub(crate) struct Screen<'a> {
+    rt: &'a HostRuntime,
     pub(crate) columns: usize,
     pub(crate) lines: usize,
     has_colours: bool,
 }
 
-impl<'a, R: Print + Eprint + AllocGlobal> Screen<'a, R> {
+impl<'a> Screen<'a> {
     /// Creates a screen with as many columns as the options say, or else as the terminal has, if it
     /// is one, and with its lines.
-    pub(crate) fn new(rt: &'a R, said: Option<u32>, terminal: Option<Terminal>) -> Screen<'a, R> {
+    pub(crate) fn new(
+        rt: &'a HostRuntime,
+        said: Option<u32>,
+        terminal: Option<Terminal>,
+    ) -> Screen<'a> {
         let found = terminal.map_or(USUAL_COLUMNS, |terminal| terminal.columns);
         Screen {
             rt,
@@ -49,6 +53,14 @@ impl<'a, R: Print + Eprint + AllocGlobal> Screen<'a, R> {
     pub(crate) fn say(&self, lines: &[u8]) -> Result<(), Ending> {
         let text = allocated(self.rt, broken(self.rt.alloc(), lines, self.columns))?;
         self.print(&text)
+    }
+
+    /// Prints lines as [`say`](Self::say) does, or nothing where there is none.
+    pub(crate) fn say_lines(&self, lines: &[u8]) -> Result<(), Ending> {
+        if lines.is_empty() {
+            return Ok(());
+        }
+        self.say(lines)
     }
 
     /// Prints a text with a board as [`say`](Self::say) does, with the rows of the board whole. The

@@ -2,6 +2,7 @@
 
 use crate::foreign_entries::NOT_CHOSEN;
 use crate::play::Table;
+use crate::play::answers::answers_text;
 use crate::play::joining::Joining;
 use crate::play::kept_choices::kept_text;
 use crate::play::players::{named_score, players_text};
@@ -13,10 +14,6 @@ use bg_processes::{Going, LivenessChange};
 use bg_reports::Ending;
 use bg_table::{Drawing, prompt_text, result_text, seat_view_text};
 use std::alloc::{AllocError, Global};
-use std::fs::File;
-use std::net::Net;
-use std::rt::Files;
-use std::time::Clock;
 
 /// The hint to a player who comes.
 const HINT: &[u8] = b"`help` lists what you can type; Enter alone draws the board";
@@ -34,10 +31,7 @@ const MOST_NEWS: Number = 20;
 const KEPT_MEANWHILE: &str =
     "What you choose now is kept, and sent when the referee is heard again";
 
-impl<'a, R> Table<'a, R>
-where
-    R: Input + Net + Files<File = File> + Clock + Print + Eprint + AllocGlobal,
-{
+impl<'a> Table<'a> {
     /// Shows the standing of the match as far as the seat knows it, as
     /// [`show_table`](Self::show_table) does, below the names of the players.
     pub(super) fn greet(&mut self) -> Result<(), Ending> {
@@ -113,7 +107,8 @@ where
         self.prompt()
     }
 
-    /// Prints whose turn it is and what the player may do, or that their choice waits.
+    /// Prints whose turn it is and what the player may do, with the outcome of each answer to an
+    /// offer, or that their choice waits.
     pub(super) fn prompt(&self) -> Result<(), Ending> {
         let rt = self.rt;
         if let Some((_, action)) = self.seat.process.open_claim() {
@@ -124,6 +119,8 @@ where
             return Ok(());
         };
         let standing = record.standing();
+        let answers = allocated(rt, answers_text(rt.alloc(), &standing, self.player))?;
+        self.screen.say_lines(&answers)?;
         let text = allocated(rt, prompt_text(rt.alloc(), &standing, self.player))?;
         self.screen.say_turn(&text)?;
         self.tell_typed()

@@ -7,10 +7,6 @@ use bg_console::allocated;
 use bg_reports::Ending;
 use bg_table::legal_turns_text;
 use bg_turns::Dice;
-use std::fs::File;
-use std::net::Net;
-use std::rt::Files;
-use std::time::Clock;
 
 /// Number of lines of a screen below those of legal turns: that of `more`, and that in which the
 /// player types.
@@ -25,10 +21,7 @@ const NO_DICE: &[u8] = b"nothing to move: it isn't your turn, or you haven't rol
 /// The message where not all legal turns were printed.
 const THERE_IS_MORE: &[u8] = b"`more` lists further turns";
 
-impl<'a, R> Table<'a, R>
-where
-    R: Input + Net + Files<File = File> + Clock + Print + Eprint + AllocGlobal,
-{
+impl<'a> Table<'a> {
     /// Prints the only legal turn if there is one, and how to play it, unless a choice waits.
     pub(super) fn show_forced(&self) -> Result<(), Ending> {
         if !self.claims_nothing() || self.only_way()?.is_none() {

@@ -4,10 +4,6 @@ use crate::play::Table;
 use crate::seats::Round;
 use bg_match::Number;
 use bg_reports::Ending;
-use std::fs::File;
-use std::net::Net;
-use std::rt::Files;
-use std::time::Clock;
 
 /// Number of ticks for which a choice waits, at least, before the player is told: three seconds.
 const TICKS_TO_ANSWER: u32 = 30;
@@ -66,10 +62,7 @@ impl Unanswered {
     }
 }
 
-impl<'a, R> Table<'a, R>
-where
-    R: Input + Net + Files<File = File> + Clock + Print + Eprint + AllocGlobal,
-{
+impl<'a> Table<'a> {
     /// Prints that the referee is heard and doesn't answer the player's choice, where that is so
     /// for three seconds. Returns whether it was printed.
     pub(super) fn tell_of_unanswered(&mut self, round: Round) -> Result<bool, Ending> {

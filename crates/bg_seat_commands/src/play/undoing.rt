@@ -3,10 +3,6 @@
 use crate::play::Table;
 use bg_match::Entry;
 use bg_reports::Ending;
-use std::fs::File;
-use std::net::Net;
-use std::rt::Files;
-use std::time::Clock;
 
 /// The messages to a player who takes back what was typed of a turn, to one who typed nothing of it,
 /// and to one whose turn was played last.
@@ -16,10 +12,7 @@ const NOTHING_TYPED: &[u8] = b"nothing to undo";
 
 const SENT: &[u8] = b"nothing to undo: a turn that was sent can't be taken back";
 
-impl<'a, R> Table<'a, R>
-where
-    R: Input + Net + Files<File = File> + Clock + Print + Eprint + AllocGlobal,
-{
+impl<'a> Table<'a> {
     /// Returns whether the last entry is a turn of the player.
     fn has_just_moved(&self) -> bool {
         match self.seat.process.held() {

@@ -91,13 +91,19 @@ const LEVELS: [(&[u8], Level); 10] = [
     (b"3", Level::Backgammon),
 ];
 
+/// The letter that may be a level, or an answer to the question for it.
+const MAY_BE_NO: &[u8] = b"n";
+
 /// Returns the request of a line: its words, in small or capital letters, with any blanks around
-/// them. Where the player was asked for a level, its name alone resigns at that level; a letter
-/// doesn't, as `n` may be a no.
+/// them. Where the player was asked for a level, its name or its letter alone resigns at that
+/// level; `n` alone asks again, as it may be a no.
 pub(crate) fn wish_of(alloc: Global, line: &[u8], asks_level: bool) -> Result<Wish, AllocError> {
     let words = plain(alloc, line)?;
     if let Some(level) = level_in(&words, asks_level) {
         return Ok(Wish::Act(Action::Resign(level)));
+    }
+    if asks_level && words.as_slice() == MAY_BE_NO {
+        return Ok(Wish::Resign);
     }
     Ok(match meaning_of(&WORDS, &words) {
         Some(word) => word.wish(),
@@ -105,12 +111,12 @@ pub(crate) fn wish_of(alloc: Global, line: &[u8], asks_level: bool) -> Result<Wi
     })
 }
 
-/// Returns the level at which some words resign. Where the player was asked for it, its name alone
-/// is enough.
+/// Returns the level at which some words resign. Where the player was asked for it, its name or
+/// its letter alone is enough, but for the letter that may be a no.
 fn level_in(words: &[u8], asks_level: bool) -> Option<Level> {
     match words.strip_prefix(b"resign ") {
         Some(name) => meaning_of(&LEVELS, name),
-        None if asks_level && words.len() > 1 => meaning_of(&LEVELS, words),
+        None if asks_level && words != MAY_BE_NO => meaning_of(&LEVELS, words),
         None => None,
     }
 }
