@@ -10,37 +10,39 @@ TOLD      a file, which gets a line for each entry that this server tells: the m
 FENCE     next, which is right; equal or none, to see what goes wrong with another fence, and without one
 """
 import os
+import pathlib
 import random
-import secrets
 import sys
 
+sys.path.insert(0, str(pathlib.Path(__file__).resolve().parents[1] / "languages" / "python"))
+
+from bg_relay import NOBODY, REFEREE, Match, Referee, Refused, Seat, Status, Took, Watcher, load
 from database import DatabaseError
-from library import NOBODY, NOT_DUE, OK, TOOK_ACCEPTED, TOOK_WORD_REFUSED, WORD_REFUSED, Library, Party, Refused
 from store import Store
 
-REFEREE, SEATS, WATCHER = 0, (1, 2), 3
+SEATS, WATCHER = (1, 2), 3
 MATCHES_A_TURN = 4
-
-
-def word():
-    return secrets.randbits(32)
+# Why a seat does not claim what a bot would like to.
+NOT_NOW = (Status.NOT_YOUR_TURN, Status.ALREADY_CLAIMED, Status.ILLEGAL)
 
 
 class Table:
     """The parties of one match at this server. What changed is in `unsaved` until the store has it."""
 
-    def __init__(self, library, store, match):
-        self.library, self.store, self.match = library, store, match
+    def __init__(self, store, match):
+        self.store, self.match = store, Match(*match)
         self.parties = {number: self.open(number) for number in (REFEREE, *SEATS)}
-        self.parties[WATCHER] = Party(library, WATCHER, match)
+        self.parties[WATCHER] = Watcher(WATCHER, self.match)
         self.unsaved, self.told = set(), 0
 
     def open(self, number):
-        return Party(self.library, number, self.match, self.store.slots(self.match[0], number))
+        slots = self.store.slots(self.match.id, number)
+        if number == REFEREE:
+            return Referee.open(self.match, slots, any(slots))
+        return Seat.open(number, self.match, slots, any(slots))
 
     def reopen(self, number):
-        """Drops what a party holds: it goes on from what the store has."""
-        self.parties[number].close()
+        """Goes on from what the store has with a party whose save has failed, which is closed."""
         self.parties[number] = self.open(number)
         self.unsaved.discard(number)
 
@@ -51,33 +53,37 @@ class Table:
     def deliver(self, datagram):
         """Carries a packet to its party, and then the answer."""
         party = self.parties.get(datagram.to)
-        if party is None or not datagram.length:
+        if party is None:
             return
-        kind = TOOK_WORD_REFUSED
-        while kind == TOOK_WORD_REFUSED:
-            kind, answer = party.take(datagram.packet(), word())
-        if kind == TOOK_ACCEPTED:
+        taken = party.take(datagram.packet)
+        if taken.kind == Took.ACCEPTED:
             self.unsaved.add(datagram.to)
-        self.deliver(answer)
+        if taken.answer:
+            self.deliver(taken.answer)
 
     def referee_adds(self):
         """The referee opens a game, or passes a turn, where that is due."""
-        status = WORD_REFUSED
-        while status == WORD_REFUSED:
-            status = self.parties[REFEREE].due(word())
-        if status != NOT_DUE:
+        if self.parties[REFEREE].due() is not None:
             self.unsaved.add(REFEREE)
+
+    def choose(self, seat, action):
+        """Claims an action, and says whether it could be claimed."""
+        try:
+            self.parties[seat].choose(action)
+        except Refused as refused:
+            if refused.status in NOT_NOW:
+                return False
+            raise
+        self.unsaved.add(seat)
+        return True
 
     def act(self, seat):
         """What a bot does, if it acts: it tries one thing after another."""
         party = self.parties[seat]
-        if party.actor() != seat:
-            return
-        wishes = [random.choice(["roll", "roll", "double"]), random.choice(["take", "take", "drop"]), "roll"]
-        for action in [*wishes, *random.sample(turns := party.turns(), min(1, len(turns)))]:
-            if party.choose(action) == OK:
-                self.unsaved.add(seat)
-                return
+        if party.actor() == seat:
+            wishes = [random.choice(["roll", "roll", "double"]), random.choice(["take", "take", "drop"]), "roll"]
+            actions = [*wishes, *random.sample(turns := party.turns(), min(1, len(turns)))]
+            any(self.choose(seat, action) for action in actions)
 
     def tick(self):
         for party in list(self.parties.values()):
@@ -86,8 +92,8 @@ class Table:
 
     def newly_told(self):
         """A line for each entry that was told and not noted yet: what is told is what a watcher comes to hold."""
-        entries = self.parties[WATCHER].entries()
-        lines = [f"{self.match[0]} {at + 1} {entries[at]}\n" for at in range(self.told, len(entries))]
+        entries = self.parties[WATCHER].lines()
+        lines = [f"{self.match.id} {at + 1} {entries[at]}\n" for at in range(self.told, len(entries))]
         self.told = len(entries)
         return "".join(lines)
 
@@ -101,19 +107,21 @@ def save(store, tables):
     saves = {}
     for table in tables:
         for number in table.unsaved:
-            saves[table.match[0], number] = table.parties[number].to_save()
+            saves[table.match.id, number] = table.parties[number].save()
     taken = store.save_all(saves) if saves else set()
     for table in tables:
         for number in list(table.unsaved):
-            if (table.match[0], number) in taken:
-                table.parties[number].mark_saved(saves[table.match[0], number][1])
+            save = saves[table.match.id, number]
+            if (table.match.id, number) in taken:
+                save.written()
                 table.unsaved.discard(number)
             else:
+                save.failed()
                 table.reopen(number)
     return len(saves) - len(taken)
 
 
-def serve(library, store, told):
+def serve(store, told):
     """Takes turns until all matches are over, and returns how many saves were refused. In a turn the parties of some
     matches act; then all that changed is saved at once; and only then it is told."""
     tables, refused = {}, 0
@@ -122,7 +130,7 @@ def serve(library, store, told):
         for match in chosen:
             tables.setdefault(match[0], None)
             if tables[match[0]] is None:
-                tables[match[0]] = Table(library, store, match)
+                tables[match[0]] = Table(store, match)
         turn = [tables[match[0]] for match in chosen]
         for step in (Table.referee_adds, lambda table: [table.act(seat) for seat in SEATS]):
             for table in turn:
@@ -136,9 +144,9 @@ def serve(library, store, told):
         for table in turn:
             os.write(told, table.newly_told().encode())
             if table.is_over():
-                store.end(table.match[0])
+                store.end(table.match.id)
                 table.close()
-                del tables[table.match[0]]
+                del tables[table.match.id]
     return refused
 
 
@@ -146,7 +154,8 @@ def main():
     library, where, path, *fence = sys.argv[1:]
     told = os.open(path, os.O_WRONLY | os.O_CREAT | os.O_APPEND, 0o644)
     try:
-        refused = serve(Library(library), Store(where, *fence), told)
+        load(library)
+        refused = serve(Store(where, *fence), told)
     except (DatabaseError, Refused) as why:
         sys.exit(f"server.py: {why}")
     print(f"{refused} saves refused")

@@ -44,15 +44,16 @@ class Store:
         return [bytes.fromhex(text[2:]) for text in rows[0]]
 
     def save_all(self, saves):
-        """Writes these saves, (match, party) -> (slot, number, text), in one transaction, and returns which of them were
+        """Writes these saves, by (match, party), in one transaction, and returns which of them were
         taken. The others were refused: another process has saved since. Rows are asked for in one order by all
         servers, so that no two wait for each other. Where the commit fails it is not known what was taken: then none is
         said to be."""
         taken = set()
         try:
             self.database.ask("begin")
-            for (match, party), (slot, number, text) in sorted(saves.items()):
-                if self.database.ask(self.save_text.format(slot=slot), text, number, match, party) == 1:
+            for (match, party), save in sorted(saves.items()):
+                statement = self.save_text.format(slot=save.slot)
+                if self.database.ask(statement, save.text, save.number, match, party) == 1:
                     taken.add((match, party))
             self.database.ask("commit")
         except DatabaseError:

@@ -1,3 +1,0 @@
-module bg_relay
-
-go 1.17

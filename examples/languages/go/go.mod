@@ -1,0 +1,3 @@
+module bgrelay
+
+go 1.17
