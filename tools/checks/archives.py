@@ -5,7 +5,8 @@ import re
 import shlex
 import subprocess
 
-from installed import needs, right, run, tree
+from counting import right
+from installed import needs, run, tree
 from releases import TOP, VERSION, manifest_of
 
 EMBEDDING = TOP / "examples/embedding"

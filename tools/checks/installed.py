@@ -1,22 +1,16 @@
 """What the manual pages and the completions of an installation have, against the help texts, and what the tools that
-read them say; for tools/checks/check_install and check_release, with what they count and which program they try."""
+read them say; for tools/checks/check_install and check_release, with which program they try."""
 import os
 import pathlib
 import re
 import shutil
 import subprocess
 
+from counting import right
+
 TOP = pathlib.Path(__file__).resolve().parents[2]
 COMPLETIONS = {"bash": "share/bash-completion/completions/bg_relay", "zsh": "share/zsh/site-functions/_bg_relay",
                "fish": "share/fish/vendor_completions.d/bg_relay.fish"}
-counts = {True: 0, False: 0}
-
-
-def right(is_right, what):
-    """Counts a check, and says what is wrong where it fails."""
-    counts[bool(is_right)] += 1
-    if not is_right:
-        print(what)
 
 
 def needs(tool, what):

@@ -2,7 +2,8 @@
 tools/checks/check_release."""
 import re
 
-from installed import needs, right, run, tree
+from counting import right
+from installed import needs, run, tree
 from releases import VERSION
 
 DOCUMENTS = "usr/share/doc/bg-relay"

@@ -209,3 +209,10 @@ def has_open(process, path):
                    for name in os.listdir(folder))
     except OSError:
         return False
+
+
+def seconds_of(process):
+    """How many seconds of a processor a process has taken."""
+    with open(f"/proc/{process.pid}/stat", encoding="utf-8") as file:
+        fields = file.read().rsplit(")", 1)[1].split()
+    return (int(fields[11]) + int(fields[12])) / os.sysconf("SC_CLK_TCK")

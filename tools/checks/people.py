@@ -43,6 +43,9 @@ MORE_MEMORY = "end other programs, or allow this one more (`ulimit -v`)"
 LEFT = "you left the table: the match goes on by the same command"
 # What each line that acts is answered with: the entry that it made.
 MADE = {"r": "roll", "d": "double", "double": "double", "t": "take", "p": "drop", "a": "accept", "n": "reject"}
+# What stands above the prompt of each answer to an offer.
+ANSWERED = {"take": r"^take: you own the cube at \d+\ndrop: [XO] wins\s",
+            "accept": r"^accept: you win\s(?:.|\n)*^reject: the game goes on\n"}
 MORE = "`more` lists further turns"
 
 
@@ -205,7 +208,7 @@ class Person:
             self.pages += 1
             self.choose(self.listed)
         elif self.behind:
-            self.do(self.behind, f"resign {self.behind.lower()}")
+            self.do(self.behind, "resign gammon")
             self.behind = None
         elif self.later:
             self.go_on_with_part(line)
@@ -245,6 +248,8 @@ class Person:
     def go_on(self):
         """Types the next line that he wants to try at this prompt, or what it asks for."""
         kind = re.match(r"\w+", self.prompt)[0]
+        if kind in ANSWERED and not re.search(ANSWERED[kind] + PROMPTED, self.screen[self.screen.rfind("\nlast: "):], re.M):
+            self.wrong.append(f"{self.player} is not told what the answers bring: {self.screen[-300:]!r}")
         if self.lines.get(kind):
             return self.type(*self.lines[kind].pop(0))
         for attempt in self.tries:
@@ -258,7 +263,7 @@ class Person:
                 self.choices.remove(choice)
                 if line == "resign":
                     # Its level is asked for.
-                    self.behind = "Gammon"
+                    self.behind = "Gammon" if self.player == "X" else "G"
                     return self.type(line, r"at\s+which\s+level")
                 return self.do(line, MADE[line])
         answers = {"roll": "r", "take": "t", "accept": "a"}

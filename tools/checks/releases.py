@@ -4,7 +4,8 @@ import pathlib
 import re
 import tarfile
 
-from installed import needs, right, run
+from counting import right
+from installed import needs, run
 
 TOP = pathlib.Path(__file__).resolve().parents[2]
 TASKS = "crates/bg_options/src/tasks.rt"

@@ -1,6 +1,5 @@
 """A server of matches for checks, and players who play by its sockets whatever becomes of it."""
 import json
-import os
 import random
 import signal
 import socket
@@ -10,10 +9,9 @@ import time
 import urllib.error
 import urllib.request
 
+from parties import seconds_of
+from program import PROGRAM
 from web_sockets import Closed, Socket
-
-TOP = os.path.realpath(os.path.join(os.path.dirname(os.path.realpath(__file__)), "..", ".."))
-PROGRAM = os.environ.get("BG_RELAY", os.path.join(TOP, "crates", "bg_relay", "out", "bg_relay"))
 
 
 class Served:
@@ -67,9 +65,7 @@ class Served:
 
     def seconds(self):
         """How many seconds of a processor it has taken."""
-        with open(f"/proc/{self.process.pid}/stat") as stat:
-            words = stat.read().rsplit(")", 1)[1].split()
-        return (int(words[11]) + int(words[12])) / os.sysconf("SC_CLK_TCK")
+        return seconds_of(self.process)
 
 
 def words_of(steps):

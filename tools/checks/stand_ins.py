@@ -6,7 +6,8 @@ import re
 import shutil
 import tempfile
 
-from installed import needs, right, run, tree
+from counting import right
+from installed import needs, run, tree
 from releases import TASKS, TOP, VERSION, manifest_of, unpacked
 
 BUILT, ARCHIVE = "crates/bg_relay/out/bg_relay", "crates/bg_c/out/libbg_c.a"
@@ -44,12 +45,14 @@ toolchain
 INTERFACE = re.search(r"#define BG_ABI (\d+)u", (TOP / "include/bg_relay.h").read_text())[1]
 # What pkg-config reads, with the prefix, and the rest of the library's folder.
 CONFIG = f"""prefix={{}}
+libdir=${{{{prefix}}}}/lib{{}}
+includedir=${{{{prefix}}}}/include
 interface={INTERFACE}
 Name: bg_relay
-Description: a proved backgammon match relay
+Description: a proved backgammon match relay, for x86-64-v2
 Version: {VERSION}
-Libs: -L${{{{prefix}}}}/lib{{}} -lbg_relay
-Cflags: -I${{{{prefix}}}}/include
+Libs: -L${{{{libdir}}}} -lbg_relay
+Cflags: -I${{{{includedir}}}}
 """
 # A line of README.md, "What is proved".
 PROVED = ("match, and each party's record is a prefix of it. Each entry of a seat in it answers the one action that the "

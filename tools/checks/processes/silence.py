@@ -1,0 +1,111 @@
+"""What parties say of a referee that does not answer, at a terminal and in a log, and when it is heard again."""
+import os
+import signal
+import time
+
+from counting import right
+from parties import Party, comes, hosts
+from processes.running import check, end, make, sit_down, start
+
+NO_WORD = "no word from the referee for three seconds: "
+
+
+def check_silence(room):
+    """Each party says in time that its referee does not answer: nobody is there, or another match's referee."""
+    top = room.top
+    table, port = f"{top}/silence/table", room.port + 20
+    match = make(table, port)
+    seat = ["--match", f"{table}/match-x", "--dir", f"{top}/silence/x"]
+    watch = ["watch", "--match", f"{table}/match-watch"]
+    in_logs = [["auto", "--match", f"{table}/match-o", "--dir", f"{top}/silence/o"], [*watch, "--quiet"]]
+    away = f"no process has its port {port}, so it is not running: start it"
+    other = f"the process at its port {port} doesn't answer: is it the referee of match {match.number}? If not, end it"
+    make(f"{top}/silence/other/table", port)
+    for referee, why in ((None, away), (f"{top}/silence/other/table", other)):
+        process = start("referee", "--quiet", "--dir", referee) if referee else None
+        right(comes(lambda: bool(hosts(port)) == bool(referee)), f"port {port} is taken, or is not")
+        parties = {" ".join(command): sit_down(*command) for command in (["play", *seat], watch, *in_logs)}
+        for command, party in parties.items():
+            right(comes(lambda: NO_WORD + why in " ".join(party.read().split()), 5),
+                  f"{command} says of a referee that does not answer: {party.screen[-300:]}")
+        end(*(party.process for party in parties.values()))
+        check("act without a word", 1, "", f"the time is over, and nothing was heard of the referee: {why}", "act",
+              "--seconds", "1", *seat)
+        if process:
+            end(process)
+    check_heard_again(table, in_logs)
+
+
+def check_heard_again(table, commands):
+    """What logs of errors alone say of a referee that comes late: that it is silent, and that it is heard, once each."""
+    parties = [sit_down(*command) for command in commands]
+    for party in parties:
+        right(party.sees(NO_WORD), f"a referee that comes late: {party.screen[-300:]}")
+    referee = start("referee", "--quiet", "--dir", table)
+    for command, party in zip(commands, parties):
+        right(party.sees("bg_relay: the referee is heard again\n"), f"{command[0]}, a late referee: {party.screen[-300:]}")
+        said = [line for line in party.screen.splitlines() if line.startswith("bg_relay: ")]
+        right(len(said) == 2, f"{command[0]} says of a referee that comes late: {said}")
+    end(referee, *(party.process for party in parties))
+
+
+def check_standstill(room):
+    """Time in which a player's process stands still is no silence of the referee; time in which it listens is."""
+    top = room.top
+    match = make(f"{top}/standstill/table", room.port + 40)
+    referee = Party(match, 0)
+    play = sit_down("play", "--match", f"{top}/standstill/table/match-x", "--dir", f"{top}/standstill/x")
+    right(referee.hears() == 1, "the seat of X does not ask")
+    referee.tell(1)
+    time.sleep(0.3)
+    os.kill(play.process.pid, signal.SIGSTOP)
+    time.sleep(5)
+    os.kill(play.process.pid, signal.SIGCONT)
+    until = time.monotonic() + 2
+    while time.monotonic() < until:
+        if referee.hears(0.2) == 1:
+            referee.tell(1)
+    right("no word" not in play.read(), f"a player whose process stood still is told: {play.screen[-300:]}")
+    begun = time.monotonic()
+    right(play.sees("no word from the referee"), f"a player is not told of a silent referee: {play.screen[-300:]}")
+    right(time.monotonic() - begun > 1.9, "a player is told of a silent referee too early")
+    end(play.process)
+    referee.close()
+
+
+class Minute:
+    """Parties whose referee is heard once and then goes away, which logs are told after a minute, and that it is back: begun
+    before all other checks, and looked at behind them."""
+
+    def __init__(self, room):
+        top, table, self.port = room.top, f"{room.top}/minute/table", room.port + 80
+        self.match = make(table, self.port)
+        referee = Party(self.match, 0)
+        seat = ["--match", f"{table}/match-x", "--dir", f"{top}/minute/x"]
+        watch = ["watch", "--match", f"{table}/match-watch"]
+        self.parties = {1: sit_down("auto", *seat), 3: sit_down(*watch, "--quiet"), 4: None}
+        asking = set()
+        comes(lambda: asking.add(referee.hears(1)) or {1, 3} <= asking)
+        self.parties[4] = sit_down(*watch)
+        comes(lambda: asking.add(referee.hears(1)) or 4 in asking)
+        for party in self.parties:
+            referee.tell(party)
+        self.begun = time.monotonic()
+        referee.close()
+
+    def look(self):
+        """Waits for the minute, and for what is said when the referee is back."""
+        why = f": no process has its port {self.port}, so it is not running: start it"
+        for number, behind in ((1, why), (3, why), (4, "")):
+            party = self.parties[number]
+            right(comes(lambda: "for a minute" in party.read(), 64 - (time.monotonic() - self.begun)),
+                  f"a log of party {number} is not told of a minute's silence: {party.screen}")
+            said = [line for line in party.screen.splitlines() if line.startswith("bg_relay: no word")]
+            right(said == [f"bg_relay: no word from the referee for a minute{behind}"], f"party {number} said {said}")
+        referee = Party(self.match, 0)
+        for number, party in self.parties.items():
+            referee.tell(number)
+            right(party.sees("bg_relay: the referee is heard again\n"),
+                  f"a log of party {number} is not told that the referee is back: {party.screen}")
+        referee.close()
+        end(*(party.process for party in self.parties.values()))

@@ -1,0 +1,67 @@
+"""What who watches keeps in files, and what is told at a screen of how far a match is."""
+import os
+import pty
+import subprocess
+import time
+
+from counting import right
+from parties import Match, Party, comes
+from processes.running import check, end, start
+from program import PROGRAM
+
+
+def text_of(path):
+    """What a file has; none where it is not there."""
+    try:
+        with open(path, encoding="ascii") as file:
+            return file.read()
+    except FileNotFoundError:
+        return None
+
+
+def check_kept_files(room):
+    """A watcher leaves what is there until it hears the referee, and may go on where a file can't be written."""
+    top = room.top
+    told = ["--match", f"{top}/table/match-watch"]
+    old, new = f"{top}/old-transcript", f"{top}/new-board"
+
+    with open(old, "w", encoding="ascii") as file:
+        file.write("more of the match\n")
+    referee = Party(Match(f"{top}/table"), 0)
+    watcher = start("watch", *told, "--transcript", old, "--board", new)
+    right(comes(lambda: text_of(new)), "the board of a watcher that begins is not written")
+    time.sleep(1.5)
+    right(text_of(old) == "more of the match\n", "the transcript was written before the referee was heard")
+    referee.tell(3)
+    right(comes(lambda: (text_of(old) or "").startswith("length 1")), "the transcript was not written when the referee was heard")
+    end(watcher)
+    referee.close()
+    page = ["--page", f"{top}/no-such-folder/page"]
+    check("a page that can't be written", 1, "length 1", "/page could not be written: ", "watch", *told, *page)
+    watcher = start("watch", *told, *page, "--go-on", "--quiet")
+    time.sleep(2.5)
+    right(watcher.poll() is None, "a watcher that goes on ended")
+    os.mkdir(f"{top}/no-such-folder")
+    right(comes(lambda: text_of(page[1])), "the page was not written when it could be")
+    watcher.kill()
+    said = [line for line in watcher.communicate()[1].decode().splitlines() if "no word" not in line]
+    right(len(said) == 1 and "could not be written: " in said[0], f"a watcher that goes on said {said}")
+
+
+def check_progress(room):
+    """Who watches the standard error of `loop` is told each second how far it is."""
+    top = room.top
+    os.mkdir(f"{top}/watched")
+    screen, end_of_it = pty.openpty()
+    words = ["loop", "--seed", "1", "--length", "99", "--rounds", "1000000", "--dir", f"{top}/watched"]
+    loop = subprocess.Popen([PROGRAM, *words], stdin=subprocess.DEVNULL, stdout=subprocess.DEVNULL, stderr=end_of_it)
+    time.sleep(3.5)
+    loop.kill()
+    loop.wait()
+    os.close(end_of_it)
+    try:
+        said = os.read(screen, 65536).decode()
+    except OSError:
+        said = ""
+    os.close(screen)
+    right(2 <= said.count(" of 1000000 rounds are done") <= 4, f"in three seconds it is said: {said}")

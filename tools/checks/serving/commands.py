@@ -1,0 +1,109 @@
+"""The command that serves matches: its log, the ports and folders that it refuses, and how it goes on without files."""
+import os
+import shutil
+import socket
+import subprocess
+import tempfile
+import time
+
+from counting import right
+from program import PROGRAM
+from serving.asking import JSON, bearer, names_on, secret_of, state_of
+from served import Served
+
+
+def serve_with_log(port):
+    """With --access-log each request has a line, without secrets and queries."""
+    folder = tempfile.mkdtemp()
+    words = [PROGRAM, "serve", "--dir", folder, "--port", str(port), "--access-log"]
+    logged = Served(folder, port, words).begin()
+    try:
+        made = logged.make(length=1, x="Anna")
+        play_logged(logged, made)
+        logged.ask("/matches?search=Anna")
+        logged.ask("/none")
+        statuses = []
+        while len(statuses) < 120 and 429 not in statuses:
+            statuses.append(logged.ask("/matches", b'{"length":1}', JSON)[0])
+        right(set(statuses) == {201, 429} and len(statuses) >= 60,
+              f"matches made at once came to {statuses[-3:]}, {len(statuses)} of them")
+        time.sleep(1.5)
+    finally:
+        logged.kill()
+        shutil.rmtree(folder, ignore_errors=True)
+    lines = logged.process.stderr.read().decode()
+    for line in ("POST /matches 201", f"POST /matches/{made['match']}/actions 200", "GET /matches 200", "GET /none 404"):
+        right(f"bg_relay: {line}\n" in lines, f"the log lacks {line}: {lines}")
+    right("bg_relay: matches ended: 1\n" in lines, f"the log lacks the end of a match: {lines}")
+    right(secret_of(made["x"]) not in lines and "Anna" not in lines, "a secret or a name is in the log")
+
+
+def play_logged(server, made):
+    """Ends a match by what scripts do."""
+    name = made["match"]
+    server.ask(f"/matches/{name}/actions", b"2 roll", bearer(made["x"]))
+    turn = state_of(server, name)["turn"].lower()
+    for number, words, seat in ((2, "resign normal", turn), (3, "accept", "o" if turn == "x" else "x")):
+        server.ask(f"/matches/{name}/actions", f"{number} {words}".encode(), bearer(made[seat]))
+
+
+def refuse_a_taken_port(server):
+    """A server whose port is taken, or whose folder another serves, says so and what to do, and leaves the first alone."""
+    for folder, said in (
+        (tempfile.mkdtemp(), f"port {server.port} is taken: end the process that has it, or name another by --port"),
+        (server.folder, "another process "),
+    ):
+        words = [PROGRAM, "serve", "--dir", folder, "--port", str(server.port)]
+        second = subprocess.run(words, capture_output=True, timeout=20, check=False)
+        lines = second.stderr.decode().splitlines()
+        right(second.returncode == 1 and len(lines) == 1 and said in lines[0], f"a second server: {second.returncode}: {lines}")
+        right(second.stdout == b"", f"a second server prints {second.stdout}")
+    right(server.ask("/health")[2] == b"ok\n", "the first server does not go on")
+
+
+def refuse_the_folder_of_a_match(server, port):
+    """The folder of one match is not served, nor managed, and stays as it is."""
+    above = tempfile.mkdtemp()
+    path = os.path.join(above, "one")
+    made = subprocess.run([PROGRAM, "new", "--length", "1", "--port", str(port), "--dir", path], capture_output=True, check=False)
+    right(made.returncode == 0, f"a match to be served was not made: {made}")
+    saved = os.path.join(above, "saved")
+    os.mkdir(saved)
+    shutil.copy(os.path.join(server.folder, names_on(server)[0], "party-0.1"), saved)
+    said = " is the folder of one match: name the folder above it\n"
+    for folder in (path, path + "/", saved):
+        kept = sorted(os.listdir(folder))
+        for words in (["serve", "--port", str(port)], ["manage", "--match", "one", "--hide"]):
+            done = subprocess.run([PROGRAM, words[0], "--dir", folder, *words[1:]], capture_output=True, check=False, text=True,
+                                  timeout=20)
+            right((done.returncode, done.stdout, done.stderr) == (2, "", f"bg_relay: {folder}{said}"),
+                  f"{words[0]} of {folder}: {done}")
+        right(sorted(os.listdir(folder)) == kept, f"{folder} has {os.listdir(folder)}")
+    shutil.rmtree(above)
+
+
+def serve_with_few_files(port):
+    """Where no more files may be opened, connections wait, nothing is tried over and over, and then it goes on."""
+    folder = tempfile.mkdtemp()
+    words = ["bash", "-c", 'ulimit -n 48; exec "$@"', "-", PROGRAM, "serve", "--dir", folder, "--port", str(port)]
+    few = Served(folder, port, words).begin()
+    try:
+        many = [socket.create_connection(("127.0.0.1", port)) for _ in range(100)]
+        time.sleep(1)
+        started = few.seconds()
+        time.sleep(3)
+        right(few.seconds() - started < 0.3, f"without files it took {few.seconds() - started} seconds of 3")
+        for one in many:
+            one.close()
+        right(few.ask("/health")[2] == b"ok\n", "it does not go on after there were too many files")
+        few.make(length=1)
+    finally:
+        few.kill()
+        shutil.rmtree(folder, ignore_errors=True)
+
+
+def rest(server):
+    """A server of whom nobody asks anything takes next to no time."""
+    started = server.seconds()
+    time.sleep(5)
+    right(server.seconds() - started < 0.25, f"idle it took {server.seconds() - started} seconds of 5")

@@ -1,0 +1,123 @@
+"""What scripts ask of a server of matches, as docs/SERVING.md says: what is answered, refused and counted."""
+import os
+import re
+
+from counting import right
+from serving.asking import JSON, bearer, counted, secret_of, state_of
+from serving.rolled import told_of_dice
+from web_sockets import Socket
+
+ELSEWHERE = {"origin": "http://elsewhere.example"}
+
+
+def ask_as_scripts(server):
+    """What docs/SERVING.md shows of scripts, and what is refused."""
+    before, made = counted(server), server.make(length=1)
+    name, state = made["match"], state_of(server, made["match"])
+    greet(server, made, state)
+    seat, other = (made["x"], made["o"]) if state["turn"] == "X" else (made["o"], made["x"])
+    act(server, name, seat)
+    refuse_requests(server, name, seat)
+    show_all(server, name)
+    compare_counts(before, counted(server))
+    accept(server, name, other)
+    ended = counted(server)["bg_relay_matches_ended_total"] - before["bg_relay_matches_ended_total"]
+    right(ended == 1, f"the end of one match is counted as {ended}")
+    told = told_of_dice(server, name)
+    right(set(told) == {"sha256", "secret"}, f"after the end it told {told} of the dice")
+    folder = os.path.join(server.folder, name)
+    kept = b"".join(open(os.path.join(folder, file), "rb").read() for file in os.listdir(folder))
+    right(not any(secret_of(made[it]).encode() in kept for it in "xo"), "a secret is kept")
+
+
+def greet(server, made, state):
+    """What is told of a match that has just begun."""
+    name = made["match"]
+    right(state["number"] == 1 and "may" not in state, f"{state}")
+    told = told_of_dice(server, name)
+    right(told == {"sha256": made["dice"]}, f"before the end it told {told} of the dice")
+    watcher = Socket(server.port, f"/matches/{name}/live")
+    greeting = watcher.message()
+    right(greeting["dice"] == made["dice"] and greeting["match"] == name, f"a watcher is greeted by {greeting}")
+    watcher.close()
+
+
+def act(server, name, seat):
+    """What the seat on turn comes to by actions."""
+    actions, key = f"/matches/{name}/actions", bearer(seat)
+    # The opening has rolled the dice of the first turn.
+    for action, reason in ((b"roll", b"the dice are rolled: move them"), (b"take", b"nobody has doubled"),
+                           (b"accept", b"nobody has offered to resign"), (b"move 1-off", b"[^\"]*1-off[^\"]*")):
+        answer = server.ask(actions, b"2 " + action, key)
+        is_refused = re.fullmatch(rb'\{"re":2,"no":"not legal","reason":"' + reason + rb'"\}', answer[2])
+        right(answer[0] == 200 and is_refused, f"{action} came to {answer}")
+    for body, status, words in ((b"2 resign normal", 200, b'{"re":2,"done":true}'),
+                                (b"2 resign normal", 200, b'{"re":2,"done":true}'),
+                                (b"2 roll", 200, b'{"re":2,"no":"another entry"}'), (b"3 roll", 200, b"not your turn"),
+                                (b"3 take", 200, b"no"), (b"3 fly", 200, b"no"),
+                                (b"roll", 400, b"NUMBER WORDS"), (b"\xff 1", 400, b"")):
+        answer = server.ask(actions, body, key)
+        right(answer[0] == status and words in answer[2], f"{body} came to {answer[0]} {answer[2]}")
+
+
+def refuse_requests(server, name, seat):
+    """Requests that are refused, each by its status."""
+    actions, key = f"/matches/{name}/actions", bearer(seat)
+    for path, body, headers, status in (
+            (actions, b"2 roll", {}, 401), (actions, b"2 roll", {"authorization": "Bearer " + "0" * 32}, 401),
+            (actions, b"2 roll", {**key, "origin": "https://elsewhere.example"}, 403), (actions, None, {}, 405),
+            ("/matches", b'{"length":3}', {}, 415),
+            ("/matches", b'{"length":0}', JSON, 400), ("/matches", b'{"length":100}', JSON, 400),
+            ("/matches", b'{"length":3,"rules":3}', JSON, 400), ("/matches", b'{"length":3,"name_x":"Anna"}', JSON, 400),
+            ("/matches", b'{"length":3,"x":"a\\nb"}', JSON, 400),
+            ("/matches", b"[" * 5000, JSON, 413), ("/matches", b"[" * 3000, JSON, 400), ("/matches", b"\xff", JSON, 400),
+            ("/matches", b'{"length":3}', {**JSON, **ELSEWHERE}, 403),
+            ("/matches/../secret", None, {}, 404), (f"/matches/{name}/secret", None, {}, 404),
+            (f"/matches/{name}/states/99", None, {}, 404), (f"/matches/{name}/states/01", None, {}, 404),
+            ("/matches/none", None, {}, 404), ("/play/live", None, {}, 426)):
+        answer = server.ask(path, body, headers)
+        right(answer[0] == status, f"{path} {body and body[:20]} came to {answer[0]}")
+    refused = server.ask("/matches", b'{"length":3,"name_x":"Anna"}', JSON)[2].decode()
+    right('"name_x"' in refused and all(f'"{key}"' in refused for key in ("length", "rules", "x", "o")),
+          f"a wrong key is refused by {refused}")
+
+
+def show_all(server, name):
+    """What is given of a match and of all, and with which headers."""
+    for path, kind in (("/", "text/html"), ("/play", "text/html"), (f"/matches/{name}", "text/html"),
+                       ("/script.js", "text/javascript"), ("/style.css", "text/css"),
+                       (f"/matches/{name}/mat", "text/plain"), (f"/matches/{name}/picture", "image/svg+xml"),
+                       (f"/matches/{name}/states/0", "application/json"), ("/health", "text/plain"), ("/metrics", "text/plain")):
+        status, headers, text = server.ask(path)
+        right(status == 200 and headers["content-type"].startswith(kind) and text,
+              f"{path} came to {status} {headers['content-type']}")
+        right(headers["x-content-type-options"] == "nosniff" and headers["referrer-policy"] == "no-referrer",
+              f"headers of {path}")
+        if kind == "text/html":
+            policy = headers["content-security-policy"]
+            right("script-src 'self'" in policy and "frame-ancestors 'none'" in policy
+                  and b"onclick" not in text and b"<script>" not in text, f"policy of {path}")
+    policy = server.ask(f"/matches/{name}/embed")[1]["content-security-policy"]
+    right("frame-ancestors *" in policy, "the page for frames")
+
+
+def compare_counts(before, after):
+    """What is counted behind all this."""
+    acted = [after[f'bg_relay_actions_total{{result="{result}"}}'] - before[f'bg_relay_actions_total{{result="{result}"}}']
+             for result in ("done", "waits", "refused", "failed")]
+    right(acted == [2, 0, 7, 0], f"actions are counted as {acted}")
+    right(after["bg_relay_requests_total"] - before["bg_relay_requests_total"] > 20, f"requests are counted as {after}")
+    saved = [after[f'bg_relay_saves_total{{result="{result}"}}'] for result in ("done", "failed")]
+    right(saved[0] >= 3 and saved[1] == 0 and 0 < after["bg_relay_save_seconds_total"] < 1000, f"saves are counted as {after}")
+    right(after['bg_relay_matches{state="live"}'] >= 1 and after["bg_relay_matches_made_total"] >= 1,
+          f"matches are counted as {after}")
+
+
+def accept(server, name, seat):
+    """The other seat accepts that the first one resigns, which ends the match."""
+    actions = f"/matches/{name}/actions"
+    for _ in range(2):
+        answer = server.ask(actions, b"3 accept", bearer(seat))
+        right(answer[2] == b'{"re":3,"done":true}', f"accepting came to {answer[2]}")
+    right(server.ask(actions, b"3 reject", bearer(seat))[2] == b'{"re":3,"no":"another entry"}',
+          "another action than that which ended the match is done")

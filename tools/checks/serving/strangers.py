@@ -1,0 +1,179 @@
+"""Strangers to a server of matches: noise, large bodies, frames in parts, guesses at secrets, and floods of connections."""
+import random
+import resource
+import socket
+import threading
+import time
+
+from counting import right
+from serving.asking import JSON, begin_players, connect, has_ended, wait_for
+from web_sockets import Closed, Socket
+
+# The most connections that a server keeps open.
+MOST_OPEN = 4096
+
+
+def visit_as_strangers(server):
+    """Strangers do what they can; a match goes on, and memory stays."""
+    made = server.make(length=1)
+    before = server.resident()
+    slow = [begin_head(server) for _ in range(200)]
+    make_noise(server)
+    large = connect(server)
+    large.sendall(b"POST /matches HTTP/1.1\r\nHost: a\r\ncontent-length: 999999999\r\n\r\n")
+    right(b" 413 " in large.recv(200), "a large body")
+    greet_wrongly(server)
+    come_from_elsewhere(server, made)
+    ended, half = {}, guess(server, made)
+    trickling = threading.Thread(target=trickle, args=(server, ended))
+    trickling.start()
+    watchers = [Socket(server.port, f"/matches/{made['match']}/live") for _ in range(50)]
+    parts = send_parts(server, made)
+    players = begin_players(server, made)
+    right(wait_for(players), f"the match did not go on: {[player.fault for player in players]}")
+    right(server.resident() - before < 40_000, f"memory grew by {server.resident() - before} kB")
+    for one in slow + [large, half.sock, parts.sock] + [watcher.sock for watcher in watchers]:
+        one.close()
+    flood(server, server.make(length=1))
+    trickling.join()
+    right(10 <= ended.get("slow", 0) < 20 and 8 <= ended.get("silent", 0) < 15,
+          f"a slow head and a silent socket ended after {ended} seconds")
+
+
+def begin_head(server):
+    """A connection that has sent a part of a head."""
+    one = connect(server)
+    one.sendall(b"GET / HTTP/1.1\r\nHost: a\r\nX-")
+    return one
+
+
+def make_noise(server):
+    """Connections that send bytes by chance."""
+    chance = random.Random(7)
+    for _ in range(300):
+        with connect(server) as noise:
+            noise.settimeout(1)
+            try:
+                noise.sendall(chance.randbytes(chance.randrange(1, 3000)))
+                noise.recv(100)
+            except OSError:
+                pass
+
+
+def greet_wrongly(server):
+    """Who begins without a right secret is told so, and is not let stay."""
+    for hello in ("hello " + "0" * 32, "act 1 roll", "x" * 600, "hello"):
+        try:
+            stranger = Socket(server.port, "/play/live")
+            stranger.send(hello)
+            right("no" in stranger.message(), f"{hello[:20]} was answered")
+            stranger.receive()
+            right(False, f"{hello[:20]} was let stay")
+        except (Closed, OSError):
+            right(True, "")
+
+
+def come_from_elsewhere(server, made):
+    """A page of another site has no socket."""
+    try:
+        Socket(server.port, f"/matches/{made['match']}/live", origin="http://elsewhere.example")
+        right(False, "a page of another site has a socket")
+    except Closed as refused:
+        right(refused.args == (403,), f"a page of another site got {refused}")
+
+
+def send_parts(server, made):
+    """A socket that has sent a message in frames of a byte each, and not its end."""
+    parts = Socket(server.port, f"/matches/{made['match']}/live")
+    for byte in b"act 2 roll":
+        parts.frame(1 if byte == 97 else 0, bytes([byte]), fin=False)
+    return parts
+
+
+def trickle(server, ended):
+    """A head that comes byte by byte has no time for ever, nor a socket that says nothing."""
+    began = time.time()
+    slow, silent = connect(server), Socket(server.port, "/play/live")
+    slow.settimeout(0.5)
+    silent.sock.settimeout(0.5)
+    times = {}
+    while len(times) < 2 and time.time() - began < 40:
+        for name, one in (("slow", slow), ("silent", silent.sock)):
+            try:
+                if name == "slow":
+                    one.sendall(b"G")
+                if name not in times and one.recv(100) == b"":
+                    times[name] = time.time() - began
+            except TimeoutError:
+                pass
+            except OSError:
+                times.setdefault(name, time.time() - began)
+    ended.update(times)
+
+
+def guess(server, made):
+    """Wrong secrets, and bytes that no route takes; gives a socket that has sent half of a frame."""
+    name, chance = made["match"], random.Random(5)
+    for _ in range(200):
+        key = {"authorization": "Bearer " + chance.randbytes(16).hex()}
+        if server.ask(f"/matches/{name}/actions", b"2 roll", key)[0] != 401:
+            right(False, "a guess at a secret was let act")
+    parts = ("", "/embed", "/state", "/states/1", "/transcript", "/mat", "/picture", "/dice", "/actions", "/live")
+    for path in ("/", "/play", "/script.js", "/style.css", "/matches", "/play/live", "/health", "/metrics",
+                 *(f"/matches/{name}{part}" for part in parts)):
+        for body in (chance.randbytes(100), b"\xff" * 100):
+            status = server.ask(path, body, JSON)[0]
+            right(400 <= status < 500, f"noise to {path} came to {status}")
+    for frame in ((1, b"act 2 \xff\xfe", True), (1, b"\xc3", True), (3, b"", True), (2, b"act 2 roll", True)):
+        link = Socket(server.port, f"/matches/{name}/live")
+        link.frame(*frame)
+        right(frame[0] == 2 or has_ended(link), f"a frame {frame} was let pass")
+        link.close()
+    half = Socket(server.port, f"/matches/{name}/live")
+    half.sock.sendall(bytes([0x81, 0x80 | 100, 1, 2, 3, 4]) + b"half")
+    return half
+
+
+def is_closed(one):
+    """Whether the other side has closed a connection."""
+    one.setblocking(False)
+    try:
+        return one.recv(1) == b""
+    except BlockingIOError:
+        return False
+    except OSError:
+        return True
+
+
+def connect_often(server, count):
+    """So many connections, as far as they are taken."""
+    many = []
+    for _ in range(count):
+        one = socket.socket()
+        one.settimeout(5)
+        try:
+            one.connect(("127.0.0.1", server.port))
+            many.append(one)
+        except OSError:
+            one.close()
+    return many
+
+
+def flood(server, made):
+    """Ten thousand connections: those beyond the limit are closed at once, and a match goes on."""
+    wanted = min(10_000, resource.getrlimit(resource.RLIMIT_NOFILE)[1] - 200)
+    players = begin_players(server, made)
+    time.sleep(0.5)
+    before = server.resident()
+    many = connect_often(server, wanted)
+    closed, late = set(), time.time() + 30
+    while len(closed) < len(many) - MOST_OPEN and time.time() < late:
+        time.sleep(0.5)
+        closed |= {one for one in many if one not in closed and is_closed(one)}
+    right(len(many) - len(closed) <= MOST_OPEN, f"of {len(many)} connections {len(closed)} were closed")
+    right(server.resident() - before < 60_000, f"{wanted} connections took {server.resident() - before} kB")
+    right(wait_for(players), f"a match did not go on beside {wanted} connections")
+    for one in many:
+        one.close()
+    time.sleep(1.5)
+    right(server.ask("/health")[0] == 200, "the server does not answer after a flood")
