@@ -13,7 +13,7 @@ import time
 
 HOST = "127.0.0.1"
 # For so long a state is waited for that comes at once where the machine is idle.
-MOST_SECONDS = 30
+MOST_SECONDS = 300
 # Codes of kinds, of entries and actions, and of what a player resigns.
 WANT, CLAIM, ENTRIES = 1, 2, 3
 OPENING, ROLL, MOVE, RESIGN, REJECT = 1, 2, 6, 7, 9
@@ -25,13 +25,30 @@ NOTICES = UNHEARD, HERE, AWAY = b"\0\0", b"\0\1", b"\0\2"
 
 
 def comes(holds, seconds=MOST_SECONDS):
-    """Whether this comes to hold within so many seconds."""
+    """Whether this comes to hold within so many seconds, or does when they are over."""
     until = time.monotonic() + seconds
+    is_late = False
     while not holds():
-        if time.monotonic() > until:
+        if is_late:
             return False
         time.sleep(0.02)
+        is_late = time.monotonic() > until
     return True
+
+
+def says(process, word, times=1):
+    """Whether a process comes to say a word so often on its standard error, which is a pipe; and what it has said by then."""
+    said, pipe = "", process.stderr.fileno()
+    os.set_blocking(pipe, False)
+
+    def has_said():
+        nonlocal said
+        said += (process.stderr.read() or b"").decode()
+        return said.count(word) >= times
+
+    is_said = comes(has_said)
+    os.set_blocking(pipe, True)
+    return is_said, said
 
 
 def mac(key, text):
@@ -145,9 +162,9 @@ class Party(Stranger):
         return count
 
     def least_pause(self):
-        """The shortest time between two questions of six; one that is below two seconds will do."""
+        """The shortest time between two questions of thirty; one that is below two seconds will do."""
         least, last = math.inf, None
-        for _ in range(6):
+        for _ in range(30):
             if least < 2 or self.hears() is None:
                 break
             now = time.monotonic()

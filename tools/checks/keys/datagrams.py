@@ -4,7 +4,7 @@ import time
 
 from counting import right
 from keys.running import end, make, opened, start, started, transcript
-from parties import (FROM_REFEREE, GAMMON, OPENING, RESIGN, SIGN, TO_REFEREE, WANT, Party, Typist, comes, seal)
+from parties import (FROM_REFEREE, GAMMON, MOST_SECONDS, OPENING, RESIGN, SIGN, TO_REFEREE, WANT, Party, Typist, comes, seal)
 from program import PROGRAM
 
 # So long nothing comes that would come at once.
@@ -73,7 +73,7 @@ def ask_referee(match, other, seat, watcher):
         right(found is None, f"the referee answered party {party.number}, one of whose datagrams was good: {found}")
         party.tell(0, packet)
         right(party.heard() is not None, f"the referee does not answer party {party.number}")
-        while party.received(0):
+        while party.received(QUIET):
             pass
 
 
@@ -132,7 +132,7 @@ def tell_entries(match, other, referee, party):
 def be_silent(match, referee, said):
     """The seat of X misses a referee whose signs of life are forged, and hears a good one."""
     # Three seconds in which its process runs, which are more on a busy machine.
-    until = time.monotonic() + 20
+    until = time.monotonic() + MOST_SECONDS
     while time.monotonic() < until and "no word from the referee" not in said.read():
         for datagram in (b"", SIGN, SIGN + bytes(16), seal(match.key(2), FROM_REFEREE, 1, SIGN),
                          match.sealed(1, 0, SIGN)):

@@ -4,7 +4,7 @@ import subprocess
 
 from counting import right
 from keys.running import make
-from parties import Match
+from parties import MOST_SECONDS, Match
 from program import PROGRAM
 
 
@@ -31,7 +31,7 @@ def check_files(top, port):
                   ["show", f"{table}/match-x", f"{table}/match-o"], ["show", f"{table}/key-secret", f"{table}/secret"],
                   ["referee", "--dir", f"{table}/none"],
                   ["act", "--player", "X", "--match", f"{table}/match-x", "--dir", f"{top}/files/x", "--seconds", "1"]):
-        done = subprocess.run([PROGRAM, *words], capture_output=True, check=False, timeout=60)
+        done = subprocess.run([PROGRAM, *words], capture_output=True, check=False, timeout=MOST_SECONDS)
         shown.append(done.stdout + done.stderr)
     right(not any(key in text for key in keys_in(table) for text in shown), "a key or a secret is shown")
     made = subprocess.run([PROGRAM, "new", "--length", "1", "--port", str(port + 300), "--dir", f"{table}-2"],

@@ -2,8 +2,8 @@
 import os
 
 from counting import right
-from keys.running import KEY_FILES, begin_all, make, put, run, text_of
-from parties import Match
+from keys.running import KEY_FILES, begin_all, make, opened, put, run, text_of
+from parties import MOST_SECONDS, Match
 
 # What to do with a key file of another match.
 OTHER = "put the file of this match in its place, or name another folder"
@@ -23,16 +23,21 @@ def check_carried_over(top, port):
         done = run(*words)
         right(done.returncode == 2 and told in done.stderr, f"without keys: status {done.returncode}: {done.stderr}")
     make_keys(table, match)
-    # It goes on to its end.
-    parties = begin_all(table, f"{top}/old")
-    done = run("keys", "--dir", table)
-    right(done.returncode == 1 and "another process plays over" in done.stderr, f"keys of a match that is played: {done}")
-    outputs = [party.communicate(timeout=120) for party in parties]
+    # It goes on to its end, and its referee holds the folder before the others come.
+    parties = begin_all(table, f"{top}/old", lambda: check_keys_while_played(table))
+    outputs = [party.communicate(timeout=MOST_SECONDS) for party in parties]
     right([party.returncode for party in parties] == [0] * 4, f"a match that was carried over: {outputs}")
     right(len({out for out, _ in outputs[1:]}) == 1, "the transcripts of a match that was carried over differ")
     for folder, told in ((f"{top}/none", "is no folder"), (f"{table}/match", "is no folder")):
         done = run("keys", "--dir", folder)
         right(done.returncode == 2 and told in done.stderr, f"keys of {folder}: status {done.returncode}: {done.stderr}")
+
+
+def check_keys_while_played(table):
+    """`keys` makes none over a folder whose referee runs."""
+    opened(table)
+    done = run("keys", "--dir", table)
+    right(done.returncode == 1 and "another process plays over" in done.stderr, f"keys of a match that is played: {done}")
 
 
 def make_keys(table, match):
@@ -78,10 +83,10 @@ def check_key_files_alone(top, port):
                         f" key files, and `bg_relay keys --dir {table}` makes new ones\n")
         put(f"{table}/{name}", text)
         for command in ("referee", "keys"):
-            done = run(command, "--dir", table, seconds=10)
+            done = run(command, "--dir", table)
             right((done.returncode, done.stdout, done.stderr) == (2, "", f"bg_relay: {told}"), f"{command}, {name}: {done}")
         put(f"{table}/{name}", texts[name])
     parties = begin_all(table, f"{top}/alone")
-    outputs = [party.communicate(timeout=120) for party in parties]
+    outputs = [party.communicate(timeout=MOST_SECONDS) for party in parties]
     right([party.returncode for party in parties] == [0] * 4, f"a match by key files alone: {outputs}")
     right(len({out for out, _ in outputs[1:]}) == 1, "the transcripts of a match by key files alone differ")

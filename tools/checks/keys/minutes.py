@@ -4,7 +4,7 @@ import time
 from counting import right
 from keys.datagrams import QUIET
 from keys.running import end, make, opened, start
-from parties import ENTRIES, NORMAL, REJECT, RESIGN, Party
+from parties import ENTRIES, MOST_SECONDS, NORMAL, REJECT, RESIGN, Party
 
 
 def check_minute(top, port):
@@ -46,7 +46,7 @@ def check_minute(top, port):
 
 def tells(watcher, number):
     """Whether a watcher is told the entry of this number within some seconds."""
-    until = time.monotonic() + 20
+    until = time.monotonic() + MOST_SECONDS
     while time.monotonic() < until:
         found = watcher.heard(until - time.monotonic())
         if found and found[0][3:4] == bytes([ENTRIES]):

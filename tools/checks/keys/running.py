@@ -3,7 +3,7 @@ import os
 import subprocess
 
 from counting import right
-from parties import Match, comes
+from parties import MOST_SECONDS, Match, comes
 from program import PROGRAM
 
 # The key files of a match, which `new` hands out.
@@ -12,7 +12,7 @@ KEY_FILES = ("match-x", "match-o", "match-watch")
 started = []
 
 
-def run(*words, seconds=60):
+def run(*words, seconds=MOST_SECONDS):
     """Runs the program; the status is none where it does not end in time."""
     try:
         return subprocess.run([PROGRAM, *words], capture_output=True, text=True, check=False, timeout=seconds)
@@ -41,9 +41,12 @@ def make(folder, port):
     return Match(folder)
 
 
-def begin_all(table, folder):
-    """The processes of all parties of a match: referee, watcher, and automatic players, whose folders lie in this one."""
-    return [start("referee", "--dir", table), start("watch", "--match", f"{table}/match-watch"),
+def begin_all(table, folder, meanwhile=lambda: None):
+    """The processes of all parties of a match: referee, watcher, and automatic players, whose folders lie in this one. Before
+    the others begin, something may be done to the referee."""
+    referee = start("referee", "--dir", table)
+    meanwhile()
+    return [referee, start("watch", "--match", f"{table}/match-watch"),
             *(start("auto", "--player", name, "--match", f"{table}/match-{name.lower()}", "--dir", f"{folder}/{name}")
               for name in "XO")]
 

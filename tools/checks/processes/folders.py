@@ -4,6 +4,7 @@ import shutil
 import subprocess
 
 from counting import right
+from parties import MOST_SECONDS
 from processes.running import check, run, start
 from program import PROGRAM
 
@@ -87,7 +88,7 @@ def check_modes(room):
                *(start("auto", "--player", name, "--match", f"{table}/match-{name.lower()}", "--dir", f"{top}/modes/{name}")
                  for name in "XO")]
     for party in parties:
-        party.communicate(timeout=120)
+        party.communicate(timeout=MOST_SECONDS)
     os.umask(before)
     for folder in (f"{top}/modes", table, f"{top}/modes/X", f"{top}/modes/O"):
         right(mode_of(folder) == 0o700, f"{folder} has the mode {mode_of(folder):o}")

@@ -7,7 +7,7 @@ import subprocess
 import time
 
 from counting import right
-from parties import AWAY, BACKGAMMON, GAMMON, HERE, MOVE, NORMAL, OPENING, RESIGN, SIGN, Party, Stranger, comes
+from parties import AWAY, BACKGAMMON, GAMMON, HERE, MOVE, NORMAL, OPENING, RESIGN, SIGN, Party, Stranger, comes, says
 from processes.running import end, make, opener, sit_down, start, transcript
 from program import PROGRAM
 
@@ -22,9 +22,10 @@ def check_failed_receives(room):
     words = [PROGRAM, "watch", "--quiet", "--match", f"{top}/table/match-watch"]
     watcher = subprocess.Popen([*fails, *words], stdin=subprocess.DEVNULL, stdout=subprocess.DEVNULL, stderr=subprocess.PIPE,
                                start_new_session=True)
-    time.sleep(2.5)
+    # By then it has tried to read for three seconds.
+    _, said = says(watcher, "no word from the referee for three seconds")
     os.killpg(watcher.pid, signal.SIGKILL)
-    said = watcher.communicate()[1].decode().splitlines()
+    said = [line for line in (said + watcher.communicate()[1].decode()).splitlines() if "no word" not in line]
     right(len(said) == 1 and "the socket of party 3 could not be read: Input/output error" in said[0],
           f"a socket that can't be read: {said}")
 
@@ -39,11 +40,9 @@ def check_longest(room):
     watcher = start("watch", "--match", f"{top}/longest/table/match-watch")
     right(referee.hears() == 3, "the watcher does not ask")
     referee.tell(3, longest)
-    # What came before its next question was taken by then.
-    right(referee.hears() == 3, "the watcher does not ask again")
-    watcher.kill()
-    said = watcher.communicate()[1].decode()
-    right("at party 3: illegal entry 1" in said, f"of a packet of 98 bytes, whose first entry is not legal, it is said: '{said}'")
+    is_told, said = says(watcher, "at party 3: illegal entry 1")
+    right(is_told, f"of a packet of 98 bytes, whose first entry is not legal, it is said: '{said}'")
+    end(watcher)
     referee.close()
 
 
@@ -55,6 +54,7 @@ def check_notices(room):
     referee, stranger = Party(match, 0), Stranger()
     play = sit_down("play", "--player", "X", "--match", f"{table}/match-x", "--dir", f"{top}/notices/x")
     right(referee.hears() == 1, "the seat of X does not ask")
+    longest, told = 0, time.monotonic()
     referee.tell(1, match.entry(1, OPENING, 5, 6))
     right(play.sees("O to move 5 6"), f"the opening is not shown: {play.screen[-200:]}")
     until = time.monotonic() + 4
@@ -64,8 +64,11 @@ def check_notices(room):
                          *(match.sealed(0, 1, wrong) for wrong in (b"\0\3", b"\1\2", b"\2", AWAY + b"\0", b""))):
             referee.send(match.port + 1, datagram)
         referee.tell(1)
+        longest, told = max(longest, time.monotonic() - told), time.monotonic()
         time.sleep(0.5)
-    right("\nO is " not in play.read() and "no word" not in play.screen, f"what is no notice counts: {play.screen[-300:]}")
+    # Where the check itself stood still for that long, it told nothing.
+    is_heard = "no word" not in play.read() or max(longest, time.monotonic() - told) > 2
+    right("\nO is " not in play.screen and is_heard, f"what is no notice counts: {play.screen[-300:]}")
     for notice, words in ((AWAY, "O is away: "), (HERE, "O is back\n")):
         referee.tell(1, notice)
         right(play.sees(words), f"a notice is not shown as '{words}': {play.screen[-200:]}")

@@ -1,10 +1,10 @@
 """What a referee and a watcher say for a log, and what `list` says of their match meanwhile."""
 import os
 import re
-import time
+import signal
 
 from counting import right
-from parties import Match, comes
+from parties import MOST_SECONDS, Match, comes, says
 from processes.running import check, end, opener, run, start, transcript
 
 
@@ -30,8 +30,11 @@ def check_log(room):
     score = re.search(r" score (\d+-\d+) ", run("judge", stdin=played).stdout.decode())[1]
     check_listed(table, f"  {score} of 3  ", is_open=False)
     again = start("referee", "--dir", table)
-    if comes(lambda: tells_locks(table), 5):
-        check("the ports of a match that is over, and served again", 2, "", "choose a port", *another)
+    if comes(lambda: tells_locks(table) or again.poll() is not None) and again.poll() is None:
+        # It would end by itself meanwhile.
+        os.kill(again.pid, signal.SIGSTOP)
+        if tells_locks(table):
+            check("the ports of a match that is over, and served again", 2, "", "choose a port", *another)
     end(again)
     check("the ports of a match that is over", 0, f"port {port}", "", *another)
 
@@ -42,11 +45,11 @@ def check_logs(top, match, front):
     referee = start("referee", "--dir", table)
     watcher = start("watch", "--match", f"{table}/match-watch")
     # Who is there is looked at once a second, and a match may be over sooner.
-    time.sleep(2)
+    before = [says(party, " is heard\n")[1] for party in (referee, watcher)]
     others = [watcher, *(start("auto", "--player", name, "--match", f"{table}/match-{name.lower()}", "--dir",
                                f"{top}/log/{name}") for name in "XO")]
-    outputs = [party.communicate(timeout=120) for party in (referee, *others)]
-    said, watched, *seats = [err.decode().splitlines() for _, err in outputs]
+    outputs = [party.communicate(timeout=MOST_SECONDS) for party in (referee, *others)]
+    said, watched, *seats = [(first + err.decode()).splitlines() for first, (_, err) in zip([*before, "", ""], outputs)]
     right(outputs[0][0] == b"", f"a referee printed {outputs[0][0]}")
     right(seats == [[], []], f"seats said {seats}")
     results = results_of(outputs[1][0].decode())

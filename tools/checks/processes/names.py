@@ -4,7 +4,7 @@ import re
 import shutil
 
 from counting import right
-from parties import Match
+from parties import MOST_SECONDS, Match
 from processes.running import check, run, start
 
 NAMES = "name-x Anna\nname-o \"\u00d6tto\" & <b>\n"
@@ -80,7 +80,7 @@ def check_named_log(top, table, match, title):
     processes = [start("referee", "--dir", table), start("watch", "--match", f"{table}/match-watch", "--page", page),
                  *(start("auto", "--player", name, "--match", f"{table}/match-{name.lower()}", "--dir", f"{top}/named/{name}")
                    for name in "XO")]
-    outputs = [process.communicate(timeout=120) for process in processes]
+    outputs = [process.communicate(timeout=MOST_SECONDS) for process in processes]
     for name, port, (_, err) in (("the referee", match.port, outputs[0]), ("watcher 3", match.port + 3, outputs[1])):
         said = err.decode()
         begins = f"bg_relay: {name} begins on port {port}: match {match.number}, length 1, rules 1, 0 entries, 0-0, "

@@ -5,9 +5,11 @@ import re
 import time
 
 from counting import right
-from parties import MOVE, OPENING, ROLL, SIGN, Party, comes
+from parties import MOST_SECONDS, MOVE, OPENING, ROLL, SIGN, Party, comes
 from processes.running import check, end, make, opener, sit_down, start
 
+# So often a seat comes again, at most, where it shows a board that it shows only if the check was late.
+MOST_TIMES = 3
 # What is played before X comes back, as it is shown.
 PLAYED = ("open 6 5", "X move 24-18 18-13", "O roll 3 1", "O move 8-5 6-5")
 
@@ -37,24 +39,38 @@ def check_rejoining(room):
                match.entry(4, MOVE, 2, 8, 5, 6, 5)]
     command = ["play", "--match", f"{table}/match-x", "--dir", folder]
     referee = Party(match, 0)
-    play = sit_down(*command)
+    play = come(referee, command, entries[:1], "your turn, X: move")
     check_first_seen(referee, play, entries, folder)
     for is_late in (False, True):
         end(play.process)
-        while referee.received(0):
-            pass
-        play = sit_down(*command)
-        check_seen_again(referee, play, entries, is_late)
+        play = come(referee, command, entries, "last: O move 8-5 6-5 (as O counts)\nX to roll\nyour turn, X: roll", is_late)
+        told = [line for line in play.screen.splitlines() if line in PLAYED]
+        boards = play.screen.count("pips: ")
+        right(not told and boards == 1 + is_late, f"who comes back sees {boards} boards, and again {told}")
     end(play.process)
     referee.close()
 
 
+def come(referee, command, entries, wanted, is_late=False):
+    """The seat of X, which comes, is told these entries at once, or late, and shows what is wanted. It shows one board, and
+    one before where the referee comes late. Where the check was late itself, the seat comes again."""
+    for at in range(MOST_TIMES):
+        while referee.received(0):
+            pass
+        play = sit_down(*command)
+        right(referee.hears() == 1, "the seat of X does not ask")
+        if is_late:
+            right(play.sees("pips: "), f"no board is shown where the referee is not heard: {play.screen}")
+        for entry in (*entries, SIGN):
+            referee.tell(1, entry)
+        right(play.sees(wanted), f"who comes does not see the present board: {play.screen}")
+        if play.screen.count("pips: ") == 1 + is_late or at == MOST_TIMES - 1:
+            return play
+        end(play.process)
+
+
 def check_first_seen(referee, play, entries, folder):
     """Who comes first sees the present board, and then each entry that comes."""
-    right(referee.hears() == 1, "the seat of X does not ask")
-    referee.tell(1, entries[0])
-    referee.tell(1)
-    right(play.sees("your turn, X: move"), f"X is not to move: {play.screen[-200:]}")
     right("\nopening\n" not in play.screen, f"who comes sees another board first than the present one: {play.screen}")
     play.type("24/13\n")
     right(comes(lambda: os.path.exists(f"{folder}/party-1.1")), "no choice was saved")
@@ -68,20 +84,6 @@ def check_first_seen(referee, play, entries, folder):
     right(told == list(PLAYED[1:]), f"the entries that came: {play.screen}")
 
 
-def check_seen_again(referee, play, entries, is_late):
-    """Who comes back sees one board, and one before where the referee comes late."""
-    right(referee.hears() == 1, "the seat of X does not ask again")
-    if is_late:
-        right(play.sees("pips: "), f"no board is shown where the referee is not heard: {play.screen}")
-    for entry in (*entries, SIGN):
-        referee.tell(1, entry)
-    right(play.sees("last: O move 8-5 6-5 (as O counts)\nX to roll\nyour turn, X: roll"),
-          f"who comes back does not see the present board: {play.screen}")
-    told = [line for line in play.screen.splitlines() if line in PLAYED]
-    boards = play.screen.count("pips: ")
-    right(not told and boards == (2 if is_late else 1), f"who comes back sees {boards} boards, and again {told}")
-
-
 def check_offer(room):
     """Who is to answer an offer to resign is told so, lines at once are all answered, and the referee stays a while."""
     top = room.top
@@ -93,7 +95,7 @@ def check_offer(room):
     told = {name: f"{table}/match-{name.lower()}" for name in "XO"}
     play = sit_down("play", "--player", other, "--match", told[other], "--dir", f"{top}/offer-other")
     check("an offer to resign", 0, f"{mover} resign normal", "", "act", "--player", mover, "--match", told[mover], "--dir",
-          f"{top}/offer-mover", "--seconds", "60", "resign", "normal")
+          f"{top}/offer-mover", "--seconds", str(MOST_SECONDS // 2), "resign", "normal")
     right(play.sees(f"your turn, {other}: accept, reject\n"),
           f"who is to answer an offer is not told to accept or reject it: {play.screen[-200:]}")
     play.type("hello\n" * 200)
@@ -117,9 +119,10 @@ def check_opponent(room):
     waiter = "XO".replace(mover, "")
 
     def sits_down(player):
-        """A player at the table, and when he sat down."""
+        """A player at the table, and when he sat down, or somewhat sooner."""
         words = ["--player", player, "--match", f"{table}/match-{player.lower()}", "--dir", f"{top}/opponent/{player}"]
-        return sit_down("play", *words), time.monotonic()
+        begun = time.monotonic()
+        return sit_down("play", *words), begun
 
     waiting, begun = sits_down(waiter)
     right(waiting.sees(f"{mover} is not here yet\n"), f"who waits alone is not told so: {waiting.screen[-200:]}")
@@ -128,10 +131,11 @@ def check_opponent(room):
     right(waiting.sees(f"{mover} is here now\n"), f"who waits is not told who comes: {waiting.screen[-200:]}")
     time.sleep(4)
     right(f"\n{waiter} is " not in moving.read(), f"who comes is told of one who is there: {moving.screen[-300:]}")
-    end(moving.process)
     killed = time.monotonic()
+    end(moving.process)
     right(waiting.sees(f"{mover} is away: "), f"who waits is not told who leaves: {waiting.screen[-200:]}")
-    right(time.monotonic() - killed > 8.5, "who waits is told who leaves before ten seconds of silence")
+    # It asked last a second before it was killed, or two on a busy machine.
+    right(time.monotonic() - killed > 8, "who waits is told who leaves before ten seconds of silence")
     end(referee)
     right(waiting.sees("no word from the referee"), f"the referee's silence is not told: {waiting.screen[-200:]}")
     referee = start("referee", "--quiet", "--dir", table)

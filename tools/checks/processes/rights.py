@@ -5,6 +5,7 @@ import subprocess
 import tempfile
 
 from counting import right
+from parties import MOST_SECONDS
 from processes.running import make
 from program import PROGRAM
 
@@ -32,7 +33,7 @@ def check_unwritable(port):
         os.mkdir(folder, 0o500)
         options = as_nobody(top)
         play = [program, "play", "--player", "X", "--match", f"{top}/match-x", "--dir", folder]
-        done = subprocess.run(play, input=b"", capture_output=True, check=False, timeout=60, **options)
+        done = subprocess.run(play, input=b"", capture_output=True, check=False, timeout=MOST_SECONDS, **options)
         told = f"bg_relay: {folder} can't be written to: give another --dir, or the right to write there: "
         is_refused = done.returncode == 2 and done.stderr.decode().startswith(told) and not done.stdout
         right(is_refused, f"an unwritable folder: {done}")
@@ -65,7 +66,7 @@ def check_rights(port):
                 ([*referee, f"{top}/no-secret"], 1, f"no-secret/secret could not be read: {told}"),
                 ([*referee, f"{top}/no-key-secret"], 1, f"no-key-secret/key-secret could not be read: {told}"))
         for words, status, wanted in rows:
-            done = subprocess.run([program, *words], input=b"", capture_output=True, check=False, timeout=60, **options)
+            done = subprocess.run([program, *words], input=b"", capture_output=True, check=False, timeout=MOST_SECONDS, **options)
             said = done.stderr.decode()
             is_told = said.startswith(f"bg_relay: {top}/{wanted}") and said.count("\n") == 1
             right(done.returncode == status and is_told, f"{wanted}: {done}")

@@ -5,7 +5,7 @@ import subprocess
 import typing
 
 from counting import right
-from parties import Match, Typist, comes
+from parties import MOST_SECONDS, Match, Typist, comes
 from program import PROGRAM
 
 # The processes that were started, and are to be ended with the check.
@@ -20,7 +20,7 @@ class Room(typing.NamedTuple):
     port: int
 
 
-def run(*words, stdin=b"", seconds=60):
+def run(*words, stdin=b"", seconds=MOST_SECONDS):
     """Runs the program; the status is none where it does not end in time."""
     try:
         return subprocess.run([PROGRAM, *words], input=stdin, capture_output=True, check=False, timeout=seconds)

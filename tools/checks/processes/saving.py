@@ -3,13 +3,15 @@ away."""
 import errno
 import os
 import subprocess
-import time
 
 from counting import right
-from parties import OPENING, Party, comes
+from parties import MOST_SECONDS, OPENING, Party, comes
 from processes.cutting import cutter
 from processes.running import check, end, make, run, sit_down
 from program import PROGRAM
+
+# What a board says below the opening that is told here.
+MOVES = "\nX to move 6 5\n"
 
 
 def check_spent(room):
@@ -62,7 +64,7 @@ def check_full(room):
     end(play.process)
     referee.close()
     new = [PROGRAM, "new", "--length", "1", "--port", "7000", "--dir", f"{top}/full-new"]
-    done = subprocess.run(new, env=cut, capture_output=True, text=True, check=False, timeout=60)
+    done = subprocess.run(new, env=cut, capture_output=True, text=True, check=False, timeout=MOST_SECONDS)
     told = f"bg_relay: {top}/full-new/secret could not be written: {why}, and run this again\n"
     right((done.returncode, done.stderr) == (1, told), f"a match made where there is no room: {done}")
     right(run(*new[1:]).returncode == 0, "no match is made where there was no room")
@@ -90,7 +92,9 @@ def check_away(room):
     right(play.sees("party 1 has its files again, and goes on"), f"it does not go on: {play.screen[-200:]}")
     referee.tell(1, opening)
     right(not os.path.exists(f"{folder}/party-1.1"), "a choice was saved that was not made")
-    time.sleep(0.5)
+    # It begins anew, and shows the board with the opening when that has come.
+    shown = play.read().count(MOVES)
+    right(comes(lambda: play.type("board\n") or play.read().count(MOVES) > shown), f"no opening: {play.screen[-200:]}")
     play.type("move 24-18 18-13\n")
     right(comes(lambda: os.path.exists(f"{folder}/party-1.1")), f"no choice was saved: {play.screen[-200:]}")
     end(play.process)

@@ -5,8 +5,8 @@ import shutil
 import signal
 import time
 
-from counting import right
-from parties import HOST, Match, Party, comes, hosts
+from counting import right, slowness
+from parties import HOST, MOST_SECONDS, Match, Party, comes, hosts
 from processes.running import check, end, make, run, start
 
 
@@ -31,7 +31,7 @@ def check_seats(room):
     """Each command of a seat, and a watcher, whose referee is the check: their ports, their locks and their pace."""
     top = room.top
     match, told = Match(f"{top}/table"), ["--match", f"{top}/table/match-x"]
-    for command in (["auto"], ["act", "--seconds", "60"], ["play"]):
+    for command in (["auto"], ["act", "--seconds", str(MOST_SECONDS)], ["play"]):
         referee = Party(match, 0)
         folder = f"{top}/seat-{command[0]}"
         seat = start(*command, "--player", "X", *told, "--dir", folder)
@@ -77,9 +77,12 @@ def check_sleep(room):
     os.kill(watcher.pid, signal.SIGSTOP)
     time.sleep(5)
     referee.questions(0)
+    begun = time.monotonic()
     os.kill(watcher.pid, signal.SIGCONT)
     asked = referee.questions(0.8)
-    right(asked <= 2, f"a process that slept for five seconds asks {asked} times at once")
+    # One at once, and one in each second that has passed, which may be some on a busy machine.
+    due = 2 + int(time.monotonic() - begun)
+    right(asked <= due, f"a process that slept for five seconds asks {asked} times at once, where {due} are due")
     end(watcher)
     referee.close()
 
@@ -92,4 +95,4 @@ def check_waiting(room):
     after = resource.getrusage(resource.RUSAGE_CHILDREN)
     used = after.ru_utime + after.ru_stime - before.ru_utime - before.ru_stime
     print(f"a process that waits uses {used * 10:.2f} % of a processor")
-    right(used < 0.1, "a process that waits uses more than 1 % of a processor")
+    right(used < 0.1 * slowness(), "a process that waits uses more than 1 % of a processor")

@@ -1,11 +1,13 @@
 """What who watches keeps in files, and what is told at a screen of how far a match is."""
+import math
 import os
 import pty
+import select
 import subprocess
 import time
 
 from counting import right
-from parties import Match, Party, comes
+from parties import MOST_SECONDS, Match, Party, comes, says
 from processes.running import check, end, start
 from program import PROGRAM
 
@@ -39,12 +41,14 @@ def check_kept_files(room):
     page = ["--page", f"{top}/no-such-folder/page"]
     check("a page that can't be written", 1, "length 1", "/page could not be written: ", "watch", *told, *page)
     watcher = start("watch", *told, *page, "--go-on", "--quiet")
+    _, said = says(watcher, "could not be written: ")
+    # It tries once a second.
     time.sleep(2.5)
     right(watcher.poll() is None, "a watcher that goes on ended")
     os.mkdir(f"{top}/no-such-folder")
     right(comes(lambda: text_of(page[1])), "the page was not written when it could be")
     watcher.kill()
-    said = [line for line in watcher.communicate()[1].decode().splitlines() if "no word" not in line]
+    said = [line for line in (said + watcher.communicate()[1].decode()).splitlines() if "no word" not in line]
     right(len(said) == 1 and "could not be written: " in said[0], f"a watcher that goes on said {said}")
 
 
@@ -54,14 +58,22 @@ def check_progress(room):
     os.mkdir(f"{top}/watched")
     screen, end_of_it = pty.openpty()
     words = ["loop", "--seed", "1", "--length", "99", "--rounds", "1000000", "--dir", f"{top}/watched"]
+    begun, said, times = time.monotonic(), "", []
     loop = subprocess.Popen([PROGRAM, *words], stdin=subprocess.DEVNULL, stdout=subprocess.DEVNULL, stderr=end_of_it)
-    time.sleep(3.5)
+    # It is said once a second, and later where the machine stands still: in one pause of some it does not.
+    while len(times) < 3 or len(times) < 30 and least_pause(times) >= 1.9:
+        if not select.select([screen], [], [], MOST_SECONDS)[0]:
+            break
+        said += os.read(screen, 65536).decode()
+        times += [time.monotonic()] * (said.count(" of 1000000 rounds are done") - len(times))
     loop.kill()
     loop.wait()
     os.close(end_of_it)
-    try:
-        said = os.read(screen, 65536).decode()
-    except OSError:
-        said = ""
     os.close(screen)
-    right(2 <= said.count(" of 1000000 rounds are done") <= 4, f"in three seconds it is said: {said}")
+    is_each_second = 3 <= len(times) <= times[-1] - begun + 1 and least_pause(times) < 1.9
+    right(is_each_second, f"it is said, and not each second: {said}")
+
+
+def least_pause(times):
+    """The shortest time between two of these that follow each other."""
+    return min((later - sooner for sooner, later in zip(times, times[1:])), default=math.inf)
