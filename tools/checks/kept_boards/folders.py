@@ -1,4 +1,5 @@
 """The folder of the pages that `board` keeps, as a web server reads it, and the sections of its index."""
+import contextlib
 import os
 import re
 
@@ -32,8 +33,12 @@ class Folder:
                 self.read(name)
 
     def times(self):
-        """When each file was written, by its name."""
-        return {name: os.stat(os.path.join(self.path, name)).st_mtime_ns for name in os.listdir(self.path)}
+        """When each file was written, by its name, but of those that are being put in their places."""
+        times = {}
+        for name in os.listdir(self.path):
+            with contextlib.suppress(FileNotFoundError):
+                times[name] = os.stat(os.path.join(self.path, name)).st_mtime_ns
+        return times
 
     def names(self):
         return sorted(os.listdir(self.path))

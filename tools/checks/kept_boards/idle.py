@@ -2,9 +2,9 @@
 import os
 import shutil
 
-from counting import right
+from counting import right, slowness
 from kept_boards.folders import Folder, sections
-from kept_boards.running import MOST_SECONDS, begin, comes, kill, make, share_of
+from kept_boards.running import MOST_SECONDS, begin, comes, kill, least_share, make
 
 # The most that a hundred idle matches take of a processor, of referees' folders and where they are watched. A program that
 # is compiled with checks is some times slower, most of all in sealing what a watcher sends.
@@ -23,9 +23,9 @@ def check_idle(room, seconds):
     folder = Folder(f"{room}/shown")
     right(comes(lambda: len(sections(folder.read("index.html"))[1]) == 100, MOST_SECONDS), "a hundred matches are not shown")
     # What has just changed is read twice more, which takes its time.
-    right(comes(lambda: share_of(board, 3) < 2 * MOST_SHARE, MOST_SECONDS), "board does not come to rest")
-    share = share_of(board, seconds)
-    right(share < MOST_SHARE, f"100 matches take {100 * share:.2f} % of a processor")
+    most = MOST_SHARE * slowness()
+    share = least_share(board, seconds, most)
+    right(share < most, f"100 matches take {100 * share:.2f} % of a processor, and not less than {100 * most:.2f} %")
     kill(board)
     return share
 
@@ -43,7 +43,8 @@ def check_idle_watchers(room, port, seconds):
     folder = Folder(f"{room}/waiting")
     right(comes(lambda: len(sections(folder.read("index.html"))[0]) == WATCHED, MOST_SECONDS),
           "not all that are watched are shown")
-    share = share_of(board, seconds)
+    most = MOST_WATCHED * slowness()
+    share = least_share(board, seconds, most)
     kill(board, *referees)
-    right(share < MOST_WATCHED, f"{WATCHED} matches that are watched take {100 * share:.2f} % of a processor")
+    right(share < most, f"{WATCHED} matches that are watched take {100 * share:.2f} % of a processor, of {100 * most:.2f} %")
     return share

@@ -8,6 +8,8 @@ from kept_boards.folders import Folder, sections
 from kept_boards.running import MOST_SECONDS, begin, comes, kill, make, run, transcript_of
 
 KILLS = 12
+# So many reads of files show whether they are whole, also of a match that is soon over.
+LEAST_READS = 100
 # What the names of the players are; they are no HTML.
 NAMES = ("--name-x", "Anna & A", "--name-o", "<Otto>")
 
@@ -19,8 +21,9 @@ def play_on(room, folder):
     parties += [begin("auto", "--match", f"{table}/match-{it}", "--dir", f"{room}/{it}") for it in "xo"]
     board, kills = begin("board", f"{room}/tables", "--out", folder.path), 0
     until = time.monotonic() + MOST_SECONDS
-    while parties[0].poll() is None and time.monotonic() < until:
-        if kills < KILLS and random.random() < 0.1:
+    while (parties[0].poll() is None or folder.reads < LEAST_READS) and time.monotonic() < until:
+        # (the first kill comes at once, however soon the match is over)
+        if kills < KILLS and (kills == 0 or random.random() < 0.1):
             kill(board)
             folder.look()
             board, kills = begin("board", f"{room}/tables", "--out", folder.path), kills + 1
@@ -50,7 +53,7 @@ def check_matches(room, port):
     after = folder.times()
     right({it: after[it] for it in files[3:]} == {it: before[it] for it in files[3:]},
           "the files of a match that waits were written")
-    right(not folder.torn and folder.reads > 50, f"torn in {folder.reads} reads: {sorted(folder.torn)}")
+    right(not folder.torn and folder.reads >= LEAST_READS, f"torn in {folder.reads} reads: {sorted(folder.torn)}")
     kill(board)
 
 

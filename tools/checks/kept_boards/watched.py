@@ -103,7 +103,7 @@ def check_watched(room, port):
           "a match that is watched does not end")
     for party in (referee, *seats):
         party.wait(MOST_SECONDS)
-    right(watched.is_whole(), "the whole match is not shown")
+    right(comes(watched.is_whole), "the whole match is not shown")
     right(watched.was_heard_again(), f"what was said: {watched.said()}")
     right(board.poll() is None and not folder.torn, f"board has ended, or files are torn: {sorted(folder.torn)}")
     kill(board, other)
