@@ -9,7 +9,7 @@ import time
 import urllib.error
 import urllib.request
 
-from parties import seconds_of
+from parties import MOST_SECONDS, seconds_of
 from program import PROGRAM
 from web_sockets import Closed, Socket
 
@@ -21,14 +21,16 @@ class Served:
         self.folder, self.port = folder, port
         self.command = command or [PROGRAM, "serve", "--dir", folder, "--port", str(port)]
         self.process = None
-        self.began = None
+        # Between these times it began.
+        self.began = self.listened = None
 
     def begin(self):
         self.began = time.time()
         self.process = subprocess.Popen(self.command, stdout=subprocess.DEVNULL, stderr=subprocess.PIPE)
-        for _ in range(600):
+        while time.time() < self.began + MOST_SECONDS:
             try:
                 socket.create_connection(("127.0.0.1", self.port), timeout=1).close()
+                self.listened = time.time()
                 return self
             except OSError:
                 if self.process.poll() is not None:
@@ -47,7 +49,7 @@ class Served:
         """The status of an answer, its headers and its bytes."""
         request = urllib.request.Request(self.url(path), data=body, headers=headers or {}, method=method)
         try:
-            with urllib.request.urlopen(request, timeout=20) as answer:
+            with urllib.request.urlopen(request, timeout=MOST_SECONDS) as answer:
                 return answer.status, answer.headers, answer.read()
         except urllib.error.HTTPError as error:
             return error.code, error.headers, error.read()

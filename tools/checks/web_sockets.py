@@ -13,7 +13,7 @@ class Closed(Exception):
 class Socket:
     """A WebSocket of a client."""
 
-    def __init__(self, port, path, host="127.0.0.1", origin=None, timeout=20, address=None):
+    def __init__(self, port, path, host="127.0.0.1", origin=None, timeout=120, address=None):
         self.sock = socket.create_connection((host, port), timeout=timeout)
         key = base64.b64encode(os.urandom(16)).decode()
         lines = [f"GET {path} HTTP/1.1", f"Host: {host}:{port}", "Connection: Upgrade", "Upgrade: websocket",

@@ -2,6 +2,7 @@
 import json
 import socket
 
+from parties import MOST_SECONDS
 from served import Player
 from web_sockets import Closed
 
@@ -43,7 +44,7 @@ def connect(server):
 
 def has_ended(link):
     """Whether the other side ends a socket within some seconds."""
-    link.sock.settimeout(5)
+    link.sock.settimeout(MOST_SECONDS)
     try:
         while True:
             link.receive()
@@ -53,15 +54,20 @@ def has_ended(link):
         return False
 
 
+def players_of(server, made, seed=""):
+    """Both players of a match, who have not begun; those of several matches have seeds of their own."""
+    return [Player(server.port, secret_of(made[seat]), seed + seat) for seat in "xo"]
+
+
 def begin_players(server, made, seed=""):
-    """Both players of a match, who begin; those of several matches have seeds of their own."""
-    players = [Player(server.port, secret_of(made[seat]), seed + seat) for seat in "xo"]
+    """Both players of a match, who begin."""
+    players = players_of(server, made, seed)
     for player in players:
         player.start()
     return players
 
 
-def wait_for(players, seconds=120):
+def wait_for(players, seconds=MOST_SECONDS):
     """Waits until each player has ended, for so long at most; gives whether all have played to the end without a fault."""
     for player in players:
         player.join(seconds)

@@ -7,20 +7,25 @@ import time
 from counting import right
 from program import PROGRAM
 from serving.archived import compare_archives
-from serving.asking import begin_players, lines_of, wait_for
+from serving.asking import lines_of, players_of, wait_for
 from serving.rolled import check_dice
 
 
 def play_with_kills(server, matches, kills):
     """Bots play so many matches to the end; the server is killed so often meanwhile."""
     made = [server.make(length=1 + index % 3, x=f"x{index} and \u00fc", o=f"o{index}") for index in range(matches)]
-    seated = {one["match"]: begin_players(server, one, one["match"]) for one in made}
+    seated = {one["match"]: players_of(server, one, one["match"]) for one in made}
+    players = [player for both in seated.values() for player in both]
+    # The last player comes behind the kills: his match goes on until then, and his opponent misses the server.
+    for player in players[:-1] if kills else players:
+        player.start()
     for _ in range(kills):
         time.sleep(random.uniform(0.2, 1))
         server.kill()
         server.begin()
-    players = [player for both in seated.values() for player in both]
-    wait_for(players, 240)
+    if kills:
+        players[-1].start()
+    wait_for(players)
     right(all(player.over for player in players), "a match did not end")
     right(not [player.fault for player in players if player.fault], f"{[player.fault for player in players if player.fault]}")
     right(sum(player.conflicts for player in players) == 0, "an entry was told otherwise later")

@@ -100,7 +100,7 @@ def copy_while_played(server):
     for index in range(5):
         copies.append(f"{server.folder}-copy-{index}")
         right(manage(server, "--backup", copies[-1])[0] == 0, "copying matches that are played")
-    right(wait_for(players, 240), "a match that was copied did not go on")
+    right(wait_for(players), "a match that was copied did not go on")
     for one in made:
         whole = lines_of(server, one["match"])
         for copy in copies:

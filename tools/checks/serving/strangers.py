@@ -6,6 +6,7 @@ import threading
 import time
 
 from counting import right
+from parties import MOST_SECONDS, comes
 from serving.asking import JSON, begin_players, connect, has_ended, wait_for
 from web_sockets import Closed, Socket
 
@@ -36,7 +37,8 @@ def visit_as_strangers(server):
         one.close()
     flood(server, server.make(length=1))
     trickling.join()
-    right(10 <= ended.get("slow", 0) < 20 and 8 <= ended.get("silent", 0) < 15,
+    # It gives them fifteen seconds and ten, and more where the machine stands still.
+    right(10 <= ended.get("slow", 0) < MOST_SECONDS and 8 <= ended.get("silent", 0) < MOST_SECONDS,
           f"a slow head and a silent socket ended after {ended} seconds")
 
 
@@ -52,6 +54,7 @@ def make_noise(server):
     chance = random.Random(7)
     for _ in range(300):
         with connect(server) as noise:
+            # Some of it is the start of a request, whose rest is waited for.
             noise.settimeout(1)
             try:
                 noise.sendall(chance.randbytes(chance.randrange(1, 3000)))
@@ -97,7 +100,7 @@ def trickle(server, ended):
     slow.settimeout(0.5)
     silent.sock.settimeout(0.5)
     times = {}
-    while len(times) < 2 and time.time() - began < 40:
+    while len(times) < 2 and time.time() - began < MOST_SECONDS:
         for name, one in (("slow", slow), ("silent", silent.sock)):
             try:
                 if name == "slow":
@@ -166,7 +169,7 @@ def flood(server, made):
     time.sleep(0.5)
     before = server.resident()
     many = connect_often(server, wanted)
-    closed, late = set(), time.time() + 30
+    closed, late = set(), time.time() + MOST_SECONDS
     while len(closed) < len(many) - MOST_OPEN and time.time() < late:
         time.sleep(0.5)
         closed |= {one for one in many if one not in closed and is_closed(one)}
@@ -175,5 +178,12 @@ def flood(server, made):
     right(wait_for(players), f"a match did not go on beside {wanted} connections")
     for one in many:
         one.close()
-    time.sleep(1.5)
-    right(server.ask("/health")[0] == 200, "the server does not answer after a flood")
+    right(comes(lambda: is_well(server)), "the server does not answer after a flood")
+
+
+def is_well(server):
+    """Whether the server answers: where it has not yet seen that others are gone, it closes a connection at once."""
+    try:
+        return server.ask("/health")[0] == 200
+    except OSError:
+        return False
