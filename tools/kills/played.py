@@ -3,13 +3,15 @@
 import os
 import shutil
 import signal
+import socket
 import subprocess
 import time
 
 TOP = os.path.realpath(os.path.join(os.path.dirname(os.path.realpath(__file__)), "..", ".."))
 PROGRAM = os.environ.get("BG_RELAY", os.path.join(TOP, "crates", "bg_relay", "out", "bg_relay"))
 LENGTHS = [1, 2, 3, 4, 5, 6, 7]
-MOST_SECONDS = 300
+# For so long a state is waited for that comes at once where the machine is idle, and the end of a match.
+MOST_SECONDS = 3600
 PLAYERS = ["referee", "X", "O"]
 OF_SILENCE = ("bg_relay: no word from the referee", "bg_relay: the referee is heard again")
 WATCHERS = ["watcher A", "watcher B"]
@@ -17,6 +19,27 @@ WATCHERS = ["watcher A", "watcher B"]
 
 class Wrong(Exception):
     """What was found wrong."""
+
+
+def are_free(port):
+    """Whether no process has a port of the parties of a match whose ports begin here: its referee, players and watchers."""
+    for at in range(port, port + 5):
+        with socket.socket(socket.AF_INET, socket.SOCK_DGRAM) as one:
+            try:
+                one.bind(("127.0.0.1", at))
+            except OSError:
+                return False
+    return True
+
+
+def wait_for(holds, what):
+    """Waits until this holds."""
+    until, is_late = time.monotonic() + MOST_SECONDS, False
+    while not holds():
+        if is_late:
+            raise Wrong(what)
+        time.sleep(0.01)
+        is_late = time.monotonic() > until
 
 
 def build_preload(name, folder):
@@ -65,8 +88,13 @@ def is_whole(count, body):
 
 
 def newest(folder, party):
-    found = [text for text in (entries_in(f"{folder}/party-{party}.{slot}") for slot in (0, 1)) if text]
-    return max(found, default=None)
+    """What entries_of says of the newest save of a party. While one file stays as it is, no more than one save begins; else
+    both are read anew, as a file that is being written looks as if it was not whole."""
+    paths = [f"{folder}/party-{party}.{slot}" for slot in (0, 1)]
+    found = [entries_in(path) for path in paths]
+    while (first := entries_in(paths[0])) != found[0]:
+        found = [first, entries_in(paths[1])]
+    return max((text for text in found if text), default=None)
 
 
 class Match:
@@ -80,13 +108,15 @@ class Match:
         os.mkdir(self.top)
         for _ in range(100):
             port = rng.randrange(20000, 32000)
+            if not are_free(port):
+                continue
             done = subprocess.run(
                 [PROGRAM, "new", "--length", str(self.length), "--rules", str(self.rules), "--port", str(port), "--dir",
                  f"{self.top}/referee"], capture_output=True, check=False)
             if done.returncode == 0:
                 break
         else:
-            raise Wrong(f"no match was made: {done.stderr}")
+            raise Wrong("no match was made, or no ports are free")
         self.hand_out()
         self.running, self.waiting, self.done = {}, dict.fromkeys(self.names, 0.0), set()
         self.kills, self.known = 0, b""
@@ -118,7 +148,12 @@ class Match:
         saved = found[2] if found else b""
         if not saved.startswith(self.known):
             raise Wrong("the referee lost or changed an entry that it had saved")
-        self.known = saved
+        if self.is_saved(found):
+            self.known = saved
+
+    def is_saved(self, found):
+        """Whether a text that is found in the referee's folder stays there."""
+        return True
 
     def collect(self, now):
         """Whoever was killed is started again soon; the others end with status 0."""
