@@ -11,6 +11,8 @@ import urllib.request
 from web_sockets import Socket
 
 NAMES = ("chromium", "chromium-browser", "google-chrome")
+# For so long a state is waited for that comes at once where the machine is idle.
+MOST_SECONDS = 120
 
 
 def found():
@@ -35,7 +37,7 @@ class Browser:
 
     def port_of(self):
         path = os.path.join(self.profile, "DevToolsActivePort")
-        for _ in range(300):
+        for _ in range(3000):
             if os.path.exists(path):
                 with open(path) as file:
                     lines = file.read().split("\n")
@@ -49,7 +51,7 @@ class Browser:
     def page(self, url, width, height, is_dark=False):
         """Opens a page in a tab of its own."""
         request = urllib.request.Request(f"http://127.0.0.1:{self.port}/json/new?about:blank", method="PUT")
-        with urllib.request.urlopen(request, timeout=30) as answer:
+        with urllib.request.urlopen(request, timeout=MOST_SECONDS) as answer:
             found_at = json.load(answer)["webSocketDebuggerUrl"]
         page = Page(self.port, found_at[found_at.index("/devtools"):])
         page.look(width, height, is_dark)
@@ -59,7 +61,7 @@ class Browser:
     def close(self):
         self.process.terminate()
         try:
-            self.process.wait(10)
+            self.process.wait(60)
         except subprocess.TimeoutExpired:
             self.process.kill()
             self.process.wait()
@@ -70,7 +72,7 @@ class Page:
     """A tab. `faults` has what its script or its policy complained of."""
 
     def __init__(self, port, path):
-        self.link = Socket(port, path, timeout=30)
+        self.link = Socket(port, path, timeout=MOST_SECONDS)
         self.number, self.faults = 0, []
         for domain in ("Page", "Runtime", "Log"):
             self.call(domain + ".enable")
@@ -110,7 +112,7 @@ class Page:
             raise Fault(f"{script}: {answer['exceptionDetails']}")
         return answer["result"].get("value")
 
-    def wait(self, script, seconds=20):
+    def wait(self, script, seconds=MOST_SECONDS):
         """Waits until an expression is true; it may speak of what is not there yet."""
         end = time.time() + seconds
         while time.time() < end:

@@ -15,8 +15,8 @@ from refused_lines import Seen, turns_to_list
 # A person types when the screen has stood still for so long.
 STILL = 0.03
 # A person waits so long for what is to come, and so long for the answer to what he types.
-MOST_SECONDS = 40
-PATIENCE = 60
+MOST_SECONDS = 300
+PATIENCE = 300
 # So many faults of what he sees are told, at most.
 MOST_TOLD = 12
 PROMPT = re.compile(r"^your turn, [XO]:\s((?:.|\n)*)", re.M)
@@ -138,7 +138,8 @@ class Person:
             return
         self.changed = time.time()
         try:
-            self.raw += os.read(self.terminal, 65536).decode().replace("\r\n", "\n")
+            # What comes may begin between the two bytes of an end of a line.
+            self.raw = (self.raw + os.read(self.terminal, 65536).decode()).replace("\r\n", "\n")
             self.screen = LOOKS.sub("", self.raw)
         except OSError:
             _, status = os.waitpid(self.pid, 0)

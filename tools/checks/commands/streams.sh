@@ -30,10 +30,14 @@ try_closed_pipes() {
     } | head -n 1 > "$work/stdout"
     judge_run "check | head" "$(cat "$work/status")" 1 "opening.txt: ok " ""
     rm -f "$work/status"
+    # (its only reader has ended)
+    mkfifo "$work/pipe"
+    true < "$work/pipe" &
     {
-        sleep 0.2
+        wait "$!"
         "$program" --help 2> "$work/stderr" || echo $? > "$work/status"
-    } | true
+    } > "$work/pipe"
+    rm "$work/pipe"
     : > "$work/stdout"
     judge_run "help into a closed pipe" "$(cat "$work/status" 2> /dev/null || echo 0)" 1 "" ""
 }

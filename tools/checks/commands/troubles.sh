@@ -7,7 +7,7 @@ try_second_process() {
     ln -s "$work/locked" "$work/alias"
     "$program" loop --seed 7 --length 99 --rounds 1000000 --dir "$work/locked" > "$work/first" 2>&1 &
     beside=$!
-    for _ in $(seq 100); do
+    for _ in $(seq 3000); do
         [ -e "$work/locked/party-0.1" ] && break
         sleep 0.1
     done

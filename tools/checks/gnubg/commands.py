@@ -9,7 +9,7 @@ GNUBG = shutil.which("gnubg", path=f"{os.environ.get('PATH', os.defpath)}:/usr/g
 def shown_in(room):
     """What gnubg shows behind the commands of a folder's file."""
     return subprocess.run([GNUBG, "-t", "-q", "-r", "-c", "commands"], stdin=subprocess.DEVNULL, capture_output=True,
-                          text=True, check=False, cwd=room, timeout=300,
+                          text=True, check=False, cwd=room, timeout=3000,
                           env={**os.environ, "HOME": room, "LC_ALL": "C"}).stdout
 
 

@@ -6,8 +6,9 @@ import time
 from program import PROGRAM
 
 TITLE = "Anna & Otto"
-# A watcher puts what it keeps in its place a second after the one before, or somewhat later on a busy machine.
-MOST_AGE = 4
+# A watcher puts what it keeps in its place a second after the one before, or somewhat later on a busy machine. Of the time
+# between two looks no more than this counts: the machine may stand still.
+MOST_AGE, MOST_PAUSE = 10, 0.5
 # What the page of a running match has, for browsers without scripts to show it anew.
 REFRESH = "http-equiv='refresh'"
 
@@ -22,18 +23,22 @@ class Board:
 
     def __init__(self, path, printed):
         self.path, self.printed = path, printed
-        self.file = self.since = None
-        self.size = self.most_age = 0
+        self.file, self.looked = None, time.monotonic()
+        self.size = self.age = self.most_age = 0
+        self.is_old = False
 
     def look(self):
         file = os.stat(self.path).st_mtime_ns if os.path.exists(self.path) else None
         size = os.stat(self.printed).st_size
-        now = time.monotonic()
+        looked, self.looked = self.looked, time.monotonic()
         if file != self.file:
-            self.file, self.size, self.since = file, size, None
-        elif size != self.size:
-            self.size, self.since = size, self.since or now
-            self.most_age = max(self.most_age, now - self.since)
+            self.file, self.size, self.age, self.is_old = file, size, 0, False
+            return
+        if self.is_old:
+            self.age += min(self.looked - looked, MOST_PAUSE)
+        if size != self.size:
+            self.size, self.is_old = size, True
+            self.most_age = max(self.most_age, self.age)
 
 
 class Kept:

@@ -4,14 +4,15 @@ import select
 import subprocess
 import time
 
-from people import PLAYED, STILL, STYLES, Person
+from people import MOST_SECONDS, PLAYED, STILL, STYLES, Person
+from ports import free_ports
 from program import PROGRAM
 from terminals.goings import go_away, sees
 from terminals.kept import TITLE, Kept
 from terminals.kinds import CHOICES, GOINGS, LONG, PARTS, REFUSED
 
-PORT = 4700
-LONGEST_MATCH = 600
+PORT = free_ports(4700, 16)
+LONGEST_MATCH = 3600
 
 
 class Table:
@@ -134,7 +135,7 @@ def left_by_all(people, kind):
 def check_ended(process):
     """Whether the referee or a watcher ends, and well."""
     try:
-        return [f"{process.args[1]} ended with {process.returncode}"] if process.wait(timeout=20) != 0 else []
+        return [f"{process.args[1]} ended with {process.returncode}"] if process.wait(timeout=MOST_SECONDS) != 0 else []
     except subprocess.TimeoutExpired:
         process.kill()
         return [f"{process.args[1]} did not end"]
