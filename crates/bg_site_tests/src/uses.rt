@@ -4,6 +4,7 @@ use crate::keepers::{Shelf, ShelfKeeper, lasting_shelf};
 use bg_board::{Die, Player};
 use bg_dice::{Ruling, digest_of, drawn_behind, ruling_of, told_text};
 use bg_hosted::{Acted, HostedMatch};
+use bg_journal::{Change, FileText, Journal};
 use bg_match::{Action, Entry, Record, Rules, Terms};
 use bg_pages::{Page, answer_page};
 use bg_processes::Failures;
@@ -134,6 +135,19 @@ fn sites(rt: HostRuntime) -> Result<(), Fail> {
     // of a socket.
     let mut connection = Connection::new(alloc, keys, Config::default());
     connection.advance(&mut site);
+    // end
+    Ok(())
+}
+
+#[test]
+fn journals(rt: HostRuntime) -> Result<(), Fail> {
+    let alloc = rt.alloc();
+    // bg_journal
+    let mut journal = Journal::open(&rt, "journal.db")?;
+    let name = String::from_str(alloc, "a/1")?;
+    let text = b"one".to_vec(alloc)?;
+    journal.write(&[Change::Put(FileText { name, text })])?;
+    assert!(rt; journal.find("a/1")?.is_some() && journal.find("a")?.is_none());
     // end
     Ok(())
 }
