@@ -71,32 +71,42 @@ impl<'a> Server<'a> {
         self.clients.len()
     }
 
-    /// Lets the clients step whose sockets are ready, and those that had more to do.
-    pub(crate) fn step_ready(&mut self, now: u64) -> io::Result<()> {
-        let mut ready = Vec::new(self.rt.alloc());
+    /// Reads and answers what has come of the clients whose sockets are ready, and of those that had
+    /// more to do. Sends nothing yet.
+    pub(crate) fn hear_ready(&mut self, now: u64) -> io::Result<()> {
+        self.heard.clear();
         for index in self.again.iter() {
-            ready.push(*index)?;
+            self.heard.push(*index)?;
         }
         self.again.clear();
         for event in &self.events {
             let Token(token) = event.token();
             if token > 0 {
-                ready.push(token - 1)?;
+                self.heard.push(token - 1)?;
             }
         }
-        for index in ready.iter() {
-            self.step(*index, now)?;
+        for index in self.heard.iter() {
+            if let Some(Some(client)) = self.clients.get_mut(*index) {
+                client.hear(&mut self.site, now);
+            }
         }
         Ok(())
     }
 
-    /// Lets a client step.
-    fn step(&mut self, index: usize, now: u64) -> io::Result<()> {
-        let step = match self.clients.get_mut(index) {
-            Some(Some(client)) => client.step(&mut self.site, now),
-            _ => Step::Waits,
-        };
-        self.note(index, step)
+    /// Sends to the clients that were heard what waits for them.
+    pub(crate) fn tell_heard(&mut self, now: u64) -> io::Result<()> {
+        for at in 0..self.heard.len() {
+            let index = match self.heard.get(at) {
+                Some(index) => *index,
+                None => return Ok(()),
+            };
+            let step = match self.clients.get_mut(index) {
+                Some(Some(client)) => client.tell(&mut self.site, now),
+                _ => Step::Waits,
+            };
+            self.note(index, step)?;
+        }
+        Ok(())
     }
 
     /// Notes what became of a client.
@@ -126,6 +136,9 @@ impl<'a> Server<'a> {
         }
         self.looked = now;
         self.is_accepting = true;
+        if let Some(database) = &self.database {
+            database.catch_up();
+        }
         self.take_changes();
         let connections = self.clients.iter().flatten().count();
         self.site.note_connections(connections as u64);

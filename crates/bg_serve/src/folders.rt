@@ -3,14 +3,15 @@
 
 use crate::changes::take_changes;
 use crate::marks::{is_hidden, quiet_minutes};
+use crate::save_counts::SaveCounts;
 use crate::seat_files::read_seats;
-use crate::timed_keepers::{SaveCounts, TimedKeeper};
+use crate::served_files::ServedFiles;
+use crate::served_keepers::ServedKeeper;
+use crate::turn_saves::{TurnSaves, TurnSlots};
 use bg_console::path_in;
 use bg_dice::{digest_of, read_digest};
 use bg_match::{Record, Terms};
-use bg_processes::{
-    Failures, FileKeeper, FolderLock, MatchFile, NamedMatch, Names, read_saved, read_secret,
-};
+use bg_processes::{Failures, FolderLock, MatchFile, NamedMatch, Names, read_saved, read_secret};
 use bg_site::{Changed, Found, Made, Saves, Seats, Store};
 use bg_wire::{REFEREE, SEAT_OF_O, SEAT_OF_X, restore};
 use bg_world::Keepers;
@@ -19,16 +20,15 @@ use std::io::ErrorKind;
 use std::rc::Rc;
 use std::{fs, io};
 
-/// A keeper of a match that is served.
-pub(crate) type Kept<'a> = TimedKeeper<'a, FileKeeper<'a, HostRuntime>>;
-
 /// The folder of all matches.
 #[derive(Drop)]
 pub struct FolderStore<'a> {
     pub(crate) rt: &'a HostRuntime,
     pub(crate) folder: &'a str,
     failures: &'a Failures,
-    saves: Rc<SaveCounts>,
+    counts: Rc<SaveCounts>,
+    /// Where the saves of a turn are gathered, if there is a database.
+    turn: Option<Rc<TurnSaves>>,
 }
 
 impl<'a> FolderStore<'a> {
@@ -46,8 +46,32 @@ impl<'a> FolderStore<'a> {
             rt,
             folder,
             failures,
-            saves: Rc::new(rt.alloc(), SaveCounts::new())?,
+            counts: Rc::new(rt.alloc(), SaveCounts::new())?,
+            turn: None,
         })
+    }
+
+    /// Gathers the saves of each turn from now on, for a database. Returns where, and what counts
+    /// them.
+    ///
+    /// # Errors
+    /// AllocError where there is no memory for it.
+    pub(crate) fn gather(&mut self) -> Result<(Rc<TurnSaves>, Rc<SaveCounts>), AllocError> {
+        let turn = Rc::new(self.rt.alloc(), TurnSaves::new(self.rt.alloc()))?;
+        self.turn = Some(turn.clone()?);
+        Ok((turn, self.counts.clone()?))
+    }
+
+    /// Notes that the files of a match are gone, or new: what the database has of them doesn't
+    /// count.
+    pub(crate) fn forget(&self, name: &str) -> io::Result<()> {
+        match &self.turn {
+            Some(turn) => match turn.remove(self.rt.alloc(), name) {
+                Ok(()) => Ok(()),
+                Err(_) => Err(io::Error::from(ErrorKind::OutOfMemory)),
+            },
+            None => Ok(()),
+        }
     }
 
     /// Returns the names of all that lies in the folder.
@@ -71,7 +95,7 @@ impl<'a> FolderStore<'a> {
     pub(crate) fn find(
         &self,
         name: &str,
-    ) -> io::Result<Option<(Found<Kept<'a>>, Option<FolderLock>)>> {
+    ) -> io::Result<Option<(Found<ServedKeeper<'a>>, Option<FolderLock>)>> {
         let path = path_in(self.rt.alloc(), self.folder, name)?;
         let Some(file) = self.match_in(path.as_str())? else {
             return Ok(None);
@@ -126,40 +150,58 @@ impl<'a> FolderStore<'a> {
         path: &str,
         file: NamedMatch,
         seats: Option<Seats>,
-    ) -> io::Result<Found<Kept<'a>>> {
+    ) -> io::Result<Found<ServedKeeper<'a>>> {
         let key = read_secret(self.rt, path)?;
         let digest = read_digest(self.rt, path)?;
         if digest.is_some_and(|digest| digest != digest_of(&key)) {
             return Err(io::Error::from(ErrorKind::InvalidData));
         }
-        let name = String::from_str(self.rt.alloc(), name)?;
+        // Over the folder of a match that has no seats others may play, who know of no database.
+        let turn_of = seats.is_some().then_some(name);
         Ok(Found {
-            name,
+            name: String::from_str(self.rt.alloc(), name)?,
             names: file.names,
             id: file.table.id,
             terms: file.table.terms,
             seats,
             key,
             digest,
-            keepers: self.keepers(path)?,
+            keepers: self.keepers(path, turn_of)?,
             is_hidden: is_hidden(self.rt, path)?,
             quiet_minutes: quiet_minutes(self.rt, path)?,
         })
     }
 
     /// Returns the keepers of the parties in a folder.
-    fn keepers(&self, path: &str) -> Result<Keepers<Kept<'a>>, AllocError> {
-        let referee = self.keeper(path, REFEREE)?;
-        let x = self.keeper(path, SEAT_OF_X)?;
-        let o = self.keeper(path, SEAT_OF_O)?;
+    ///
+    /// The saves of the match that `turn_of` names are gathered for the database, if there is one.
+    fn keepers(
+        &self,
+        path: &str,
+        turn_of: Option<&str>,
+    ) -> Result<Keepers<ServedKeeper<'a>>, AllocError> {
+        let referee = self.keeper(path, REFEREE, turn_of)?;
+        let x = self.keeper(path, SEAT_OF_X, turn_of)?;
+        let o = self.keeper(path, SEAT_OF_O, turn_of)?;
         Ok(Keepers { referee, x, o })
     }
 
     /// Returns the keeper of a party in a folder.
-    fn keeper(&self, path: &str, party: u8) -> Result<Kept<'a>, AllocError> {
-        let counts = self.saves.clone()?;
-        let keeper = FileKeeper::new(self.rt, path, party, self.failures)?;
-        Ok(TimedKeeper::new(self.rt, keeper, counts))
+    fn keeper(
+        &self,
+        path: &str,
+        party: u8,
+        turn_of: Option<&str>,
+    ) -> Result<ServedKeeper<'a>, AllocError> {
+        let slots = match (&self.turn, turn_of) {
+            (Some(turn), Some(name)) => {
+                Some(TurnSlots::new(self.rt.alloc(), turn.clone()?, name, party)?)
+            }
+            _ => None,
+        };
+        let counts = self.counts.clone()?;
+        let files = ServedFiles::new(self.rt, path, party, self.failures, slots, counts)?;
+        Ok(ServedKeeper::over(files))
     }
 
     /// Reads the record that a match's referee has saved.
@@ -168,8 +210,8 @@ impl<'a> FolderStore<'a> {
         let Some(file) = self.table_in(path.as_str())? else {
             return Ok(None);
         };
-        let zero = self.saved_in(path.as_str(), "party-0.0")?;
-        let one = self.saved_in(path.as_str(), "party-0.1")?;
+        let zero = self.saved_in(name, "party-0.0")?;
+        let one = self.saved_in(name, "party-0.1")?;
         Ok(record_in(self.rt.alloc(), &zero, &one, file))
     }
 
@@ -179,9 +221,15 @@ impl<'a> FolderStore<'a> {
         MatchFile::read(self.rt, path.as_str())
     }
 
-    /// Reads a slot of a folder.
-    fn saved_in(&self, path: &str, slot: &str) -> io::Result<Vec<u8>> {
-        let path = path_in(self.rt.alloc(), path, slot)?;
+    /// Reads a slot of a match.
+    fn saved_in(&self, name: &str, slot: &str) -> io::Result<Vec<u8>> {
+        let file = path_in(self.rt.alloc(), name, slot)?;
+        if let Some(turn) = &self.turn {
+            if let Ok(Some(text)) = turn.newest(self.rt.alloc(), file.as_str()) {
+                return Ok(text);
+            }
+        }
+        let path = path_in(self.rt.alloc(), self.folder, file.as_str())?;
         read_saved(self.rt, path.as_str())
     }
 }
@@ -195,8 +243,8 @@ fn record_in(alloc: Global, zero: &[u8], one: &[u8], file: MatchFile) -> Option<
     }
 }
 
-impl<'a> Store<Kept<'a>> for FolderStore<'a> {
-    fn make(&mut self, terms: Terms, names: Names) -> Option<Made<Kept<'a>>> {
+impl<'a> Store<ServedKeeper<'a>> for FolderStore<'a> {
+    fn make(&mut self, terms: Terms, names: Names) -> Option<Made<ServedKeeper<'a>>> {
         match self.try_make(terms, names) {
             Ok(made) => Some(made),
             Err(_) => None,
@@ -211,6 +259,6 @@ impl<'a> Store<Kept<'a>> for FolderStore<'a> {
     }
 
     fn saves(&self) -> Saves {
-        self.saves.counted()
+        self.counts.counted()
     }
 }

@@ -14,24 +14,32 @@ mod backups;
 mod changes;
 mod clients;
 mod crowds;
+mod database_words;
+mod databases;
 mod exchanges;
 mod folders;
 mod limits;
+mod live_clients;
 mod making;
 pub mod manage;
 mod marks;
 mod quotas;
+mod save_counts;
 mod seat_files;
 pub mod serve;
+mod served_files;
+mod served_keepers;
 mod servers;
+mod settling;
 mod sockets;
 mod tables;
-mod timed_keepers;
+mod turn_saves;
+mod turns;
 
 pub use folders::FolderStore;
 pub use limits::{
     HEAD_SECONDS, HELLO_SECONDS, MOST_BODY, MOST_CLIENTS, MOST_HEAD, MOST_MADE, PING_SECONDS,
     SILENT_SECONDS, STALL_SECONDS,
 };
+pub use served_keepers::ServedKeeper;
 pub use servers::Server;
-pub use timed_keepers::TimedKeeper;

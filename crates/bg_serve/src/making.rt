@@ -1,7 +1,8 @@
 //! How a match is made in a folder of its own.
 
-use crate::folders::{FolderStore, Kept};
+use crate::folders::FolderStore;
 use crate::seat_files::{random_digits, write_seats};
+use crate::served_keepers::ServedKeeper;
 use bg_console::path_in;
 use bg_dice::{digest_of, write_digest};
 use bg_match::Terms;
@@ -23,7 +24,11 @@ impl<'a> FolderStore<'a> {
     ///
     /// # Errors
     /// Why it could not be made.
-    pub(crate) fn try_make(&self, terms: Terms, names: Names) -> io::Result<Made<Kept<'a>>> {
+    pub(crate) fn try_make(
+        &self,
+        terms: Terms,
+        names: Names,
+    ) -> io::Result<Made<ServedKeeper<'a>>> {
         let (x, o) = (random_digits(self.rt, 16)?, random_digits(self.rt, 16)?);
         let found = self.make_found(x.as_str(), o.as_str(), terms, names)?;
         Ok(Made { found, x, o })
@@ -36,7 +41,7 @@ impl<'a> FolderStore<'a> {
         o: &str,
         terms: Terms,
         names: Names,
-    ) -> io::Result<Found<Kept<'a>>> {
+    ) -> io::Result<Found<ServedKeeper<'a>>> {
         let name = random_digits(self.rt, 6)?;
         let path = path_in(self.rt.alloc(), self.folder, name.as_str())?;
         let seats = self.make_folder(path.as_str(), x, o)?;

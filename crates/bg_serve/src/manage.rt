@@ -1,5 +1,6 @@
 //! The command by which an operator changes the matches in a folder, also while they are served.
 
+use crate::database_words::settle_first;
 use crate::tables::{Tables, check_of_all};
 use bg_board::Player;
 use bg_console::{check_folder, failed_at, failed_for, say, written, wrong};
@@ -27,6 +28,9 @@ pub fn run(rt: &HostRuntime, options: ManageOptions<'_>) -> Result<Ending, Endin
     check_folder(rt, folder, " is no folder: name the one that `serve` has")?;
     check_of_all(rt, folder)?;
     let lock = lock_unless_served(rt, folder)?;
+    if lock.is_some() {
+        settle_first(rt, folder)?;
+    }
     let tables = Tables {
         rt,
         folder,

@@ -1,12 +1,13 @@
 //! The command that serves matches to browsers.
 
+use crate::database_words::{is_anothers, not_usable, settle_first, tell_outage};
 use crate::servers::Server;
+use crate::settling::Unusable;
 use crate::tables::check_of_all;
 use bg_console::{failed, failed_or, own_folder, say, say_failures};
 use bg_options::ServeOptions;
 use bg_processes::{Failures, Printable};
 use bg_reports::Ending;
-use std::io;
 use std::io::ErrorKind;
 
 /// The words on what a server needs to begin, and to go on.
@@ -25,49 +26,60 @@ pub fn run(rt: &HostRuntime, options: ServeOptions<'_>) -> Result<Ending, Ending
         port,
         idle_hours,
         tells_requests,
+        database,
     } = options;
     check_of_all(rt, folder)?;
     let _lock = own_folder(rt, folder)?;
+    settle_first(rt, folder)?;
     let failures = Failures::new();
-    let mut server = match Server::begin(rt, folder, port, &failures) {
+    let begun = Server::begin_with(rt, folder, port, &failures, database);
+    let mut server = match begun {
         Ok(server) => server,
-        Err(error) => return Err(not_begun(rt, port, &error)),
+        Err(why) => return Err(not_begun(rt, port, database.unwrap_or_default(), why)),
     };
     server.site.set_idle(u64::from(idle_hours) * 60);
     tell_begin(rt, &server);
     if tells_requests {
         server.site.keep_log();
     }
-    go_on(rt, &mut server, folder, &failures)
+    go_on(rt, &mut server, options, &failures)
 }
 
-/// Reports why the matches of a folder can't be served at a port.
-fn not_begun(rt: &HostRuntime, port: u16, error: &io::Error) -> Ending {
-    if error.kind() == ErrorKind::AddrInUse {
-        return failed(
+/// Reports why the matches of a folder can't be served at a port, or with a database.
+fn not_begun(rt: &HostRuntime, port: u16, database: &str, why: Unusable) -> Ending {
+    match why {
+        Unusable::File(error) if error.kind() == ErrorKind::AddrInUse => failed(
             rt,
             format_args!(
                 "port {port} is taken: end the process that has it, or name another by --port"
             ),
-        );
+        ),
+        Unusable::File(error) => {
+            failed_or(rt, "the matches can't be served", &error, FOLDER_AND_PORT)
+        }
+        Unusable::Database(error) => not_usable(rt, database, error),
+        Unusable::Anothers => is_anothers(rt, database),
     }
-    failed_or(rt, "the matches can't be served", error, FOLDER_AND_PORT)
 }
 
 /// Lets a server take its turns.
 fn go_on(
     rt: &HostRuntime,
     server: &mut Server<'_>,
-    folder: &str,
+    options: ServeOptions<'_>,
     failures: &Failures,
 ) -> Result<Ending, Ending> {
     for _ in 0..u64::MAX {
+        let before = server.held_back();
         match server.turn() {
             Ok(made) => tell_counts(rt, made, server.ended(), server.changed()),
             Err(error) => return Err(failed_or(rt, NOT_WAITED, &error, MORE_FILES)),
         }
+        if let Some(path) = options.database {
+            tell_outage(rt, path, before, server.held_back());
+        }
         tell_requests(rt, server);
-        say_failures(rt, failures, folder);
+        say_failures(rt, failures, options.folder);
     }
     Ok(Ending::Served)
 }

@@ -1,10 +1,14 @@
-//! The server: its listener, its clients, and its turns.
+//! The server: its matches, its listener and its clients.
 
 use crate::clients::Client;
-use crate::folders::{FolderStore, Kept};
+use crate::databases::Database;
+use crate::folders::FolderStore;
 use crate::limits::MOST_MADE;
 use crate::quotas::Quota;
+use crate::served_keepers::ServedKeeper;
+use crate::settling::{Unusable, begin};
 use crate::sockets::Sockets;
+use bg_journal::Error;
 use bg_processes::{Failures, FolderLock};
 use bg_requests::is_name;
 use bg_site::Site;
@@ -12,7 +16,7 @@ use mio::net::TcpListener;
 use mio::{Events, Poll, Token};
 use std::io;
 use std::net::SocketAddr;
-use std::time::{Duration, Instant};
+use std::time::Instant;
 
 /// The token of the listener; that of a client is one more than its index.
 pub(crate) const LISTENER: Token = Token(0);
@@ -21,7 +25,11 @@ pub(crate) const LISTENER: Token = Token(0);
 #[derive(Drop)]
 pub struct Server<'a> {
     pub(crate) rt: &'a HostRuntime,
-    pub(crate) site: Site<Kept<'a>, FolderStore<'a>>,
+    pub(crate) site: Site<ServedKeeper<'a>, FolderStore<'a>>,
+    /// Where the saves of a turn are made durable, if that isn't in the folders themselves.
+    pub(crate) database: Option<Database<'a>>,
+    /// Why the saves of the last turn are not durable yet. As long as they are not, nothing is told.
+    pub(crate) held_back: Option<Error>,
     /// The names of what looks like a match in the folder, and can't be served.
     left_out: Vec<String>,
     /// The locks of folders that others might play over.
@@ -32,15 +40,17 @@ pub struct Server<'a> {
     pub(crate) clients: Vec<Option<Client>>,
     /// The indices of clients that may have more to do.
     pub(crate) again: Vec<usize>,
-    quota: Quota,
+    /// Those of the clients that were heard in this turn, and are to be told what came of it.
+    pub(crate) heard: Vec<usize>,
+    pub(crate) quota: Quota,
     /// How many changes of the operator were taken in, and not told yet.
     changed: u64,
     /// How many matches were told to have ended.
     ended: u64,
-    start: Instant,
+    pub(crate) start: Instant,
     /// The second in which all were looked at last, and the tenth in which matches ticked last.
     pub(crate) looked: u64,
-    ticked: u64,
+    pub(crate) ticked: u64,
     /// Whether connections may wait to be accepted.
     pub(crate) is_accepting: bool,
 }
@@ -56,10 +66,35 @@ impl<'a> Server<'a> {
         port: u16,
         failures: &'a Failures,
     ) -> io::Result<Server<'a>> {
+        match Server::begin_with(rt, folder, port, failures, None) {
+            Ok(server) => Ok(server),
+            Err(Unusable::File(error)) => Err(error),
+            Err(_) => Err(io::Error::from(io::ErrorKind::Other)),
+        }
+    }
+
+    /// Begins like [`Server::begin`]. What matches save in a turn is made durable in a database, if
+    /// one is named, which is made where there is none.
+    ///
+    /// # Errors
+    /// Why the port could not be bound, the folder could not be read, or the database can't be
+    /// used.
+    pub(crate) fn begin_with(
+        rt: &'a HostRuntime,
+        folder: &'a str,
+        port: u16,
+        failures: &'a Failures,
+        database: Option<&'a str>,
+    ) -> Result<Server<'a>, Unusable> {
         let start = Instant::now(rt)?;
-        let store = FolderStore::new(rt, folder, failures)?;
+        let mut store = FolderStore::new(rt, folder, failures)?;
         let sockets = Sockets::bind(rt, port)?;
+        let database = match database {
+            Some(path) => Some(open_database(rt, folder, path, &mut store)?),
+            None => None,
+        };
         let mut server = Server::over(rt, sockets, store, start);
+        server.database = database;
         server.open_all()?;
         Ok(server)
     }
@@ -74,6 +109,8 @@ impl<'a> Server<'a> {
         Server {
             rt,
             site: Site::new(rt.alloc(), store),
+            database: None,
+            held_back: None,
             left_out: Vec::new(rt.alloc()),
             locks: Vec::new(rt.alloc()),
             poll: sockets.poll,
@@ -81,6 +118,7 @@ impl<'a> Server<'a> {
             listener: sockets.listener,
             clients: Vec::new(rt.alloc()),
             again: Vec::new(rt.alloc()),
+            heard: Vec::new(rt.alloc()),
             quota: Quota::new(MOST_MADE),
             changed: 0,
             ended: 0,
@@ -133,18 +171,20 @@ impl<'a> Server<'a> {
         }
     }
 
-    /// Takes in what the operator has changed of a match: it may be new, or gone.
+    /// Takes in what the operator has changed of a match: it may be new, or gone. What a database
+    /// has of such a match doesn't count.
     fn take_change(&mut self, name: &str) -> io::Result<()> {
         match self.site.store().changed(name) {
             Ok(Some(changed)) => {
                 if !self.site.change(name, changed) && is_name(name) {
+                    self.site.store().forget(name)?;
                     self.open(name)?;
                 }
                 Ok(())
             }
             Ok(None) => {
                 self.site.remove(name);
-                Ok(())
+                self.site.store().forget(name)
             }
             Err(error) => Err(error),
         }
@@ -183,60 +223,20 @@ impl<'a> Server<'a> {
         &self.left_out
     }
 
-    /// Waits until something is to be done, and does it. Returns how many matches were made.
-    ///
-    /// # Errors
-    /// Why the sockets can't be waited for, or there is no memory.
-    pub fn turn(&mut self) -> io::Result<u64> {
-        let made = self.site.made();
-        self.wait()?;
-        let since = Instant::now(self.rt)?.duration_since(self.start);
-        let now = since.as_secs();
-        self.site.allow_making(self.quota.has_any(now));
-        self.site.begin_minute(now / 60);
-        self.accept(now);
-        self.step_ready(now)?;
-        self.tick(tenths_of(since));
-        self.look(now);
-        if self.site.has_news() {
-            self.send_news(now)?;
-        }
-        let made = self.site.made().saturating_sub(made);
-        self.quota.take(made);
-        Ok(made)
-    }
-
-    /// Waits until a socket is ready, or time has come for something else. Where connections may
-    /// wait to be accepted, nothing tells of them again.
-    fn wait(&mut self) -> io::Result<()> {
-        let most = if !self.again.is_empty() || self.is_accepting {
-            0
-        } else if self.site.is_restless() {
-            100
-        } else {
-            1000
-        };
-        match self
-            .poll
-            .poll(&mut self.events, Some(Duration::from_millis(most)))
-        {
-            Err(error) if error.kind() == io::ErrorKind::Interrupted => Ok(()),
-            result => result,
-        }
-    }
-
-    /// Lets matches tick that have something left to do, ten times a second.
-    fn tick(&mut self, tenth: u64) {
-        if self.site.is_restless() && tenth != self.ticked {
-            self.ticked = tenth;
-            self.site.tick();
-        }
+    /// Returns why the saves of the last turn could not be made durable; None where they are.
+    pub fn held_back(&self) -> Option<Error> {
+        self.held_back
     }
 }
 
-/// Returns the tenths of a second in a time.
-fn tenths_of(time: Duration) -> u64 {
-    time.as_secs()
-        .saturating_mul(10)
-        .saturating_add(u64::from(time.subsec_millis() / 100))
+/// Opens the database of a folder, to which the saves of the store go from now on.
+fn open_database<'a>(
+    rt: &'a HostRuntime,
+    folder: &'a str,
+    path: &'a str,
+    store: &mut FolderStore<'a>,
+) -> Result<Database<'a>, Unusable> {
+    let owned = begin(rt, folder, path)?;
+    let (saves, counts) = store.gather()?;
+    Ok(Database::new(rt, folder, path, owned, saves, counts))
 }

@@ -20,11 +20,17 @@ request must be complete within 15 seconds. A socket is closed if it is silent f
 takes nothing for 60. Behind a proxy, an address has at most 128 connections, 64 of them sockets,
 and makes at most 10 matches a minute.
 
+Each save is made durable before anybody is told of it. With --store all saves of a moment are
+made durable together, in a SQLite database that is made if it is missing: that lets a server with
+many matches take several times as many actions. The folders of the matches follow it. The next
+`serve` or `manage` over DIR finds the database by itself (docs/SERVING.md, \"A database\").
+
 Logs on standard error that it has started, that matches are made, and what fails. Runs until it
 is stopped.
 
-Exit status: 1 if the port is taken, another process serves DIR, or reading, writing or memory
-failed; 2 if DIR is not a folder, or is the folder of one match.";
+Exit status: 1 if the port is taken, another process serves DIR or has the database, or reading,
+writing or memory failed; 2 if DIR is not a folder, or is the folder of one match, or the database
+has the saves of another folder.";
 
 /// The folder to serve, and the port.
 #[derive(Clone, Copy)]
@@ -36,6 +42,8 @@ pub struct ServeOptions<'a> {
     pub idle_hours: u32,
     /// Whether each request is logged.
     pub tells_requests: bool,
+    /// The database that saves are written to, if they are to be made durable together.
+    pub database: Option<&'a str>,
 }
 
 impl<'a> ServeOptions<'a> {
@@ -45,6 +53,7 @@ impl<'a> ServeOptions<'a> {
             port: u16::try_from(number_in(options, PORT.name)?).ok()?,
             idle_hours: number_in(options, IDLE.name)?,
             tells_requests: options.get_flag(ACCESS_LOG.name),
+            database: options.get_str(STORE.name),
         })
     }
 }
@@ -77,11 +86,18 @@ const ACCESS_LOG: Argument = Argument {
     about: "Log each request too: its method, path and status",
 };
 
+const STORE: Argument = Argument {
+    name: "store",
+    kind: Kind::Text("FILE"),
+    need: Need::Optional,
+    about: "Make saves durable in this SQLite database: faster with many matches",
+};
+
 /// The command with its options and help.
 pub(crate) const COMMAND: Description = Description {
     name: "serve",
     about: "Let people play and watch matches in a browser",
     long_about: ABOUT_SERVE,
     after_help: None,
-    arguments: &[FOLDER, PORT, IDLE, ACCESS_LOG],
+    arguments: &[FOLDER, PORT, IDLE, ACCESS_LOG, STORE],
 };

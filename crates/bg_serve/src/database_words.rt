@@ -1,0 +1,120 @@
+//! The words on databases that can't be used.
+
+use crate::settling::{Unusable, read_mark, settle};
+use bg_console::{failed, failed_at, say, wrong};
+use bg_journal::{Error, ErrorCode};
+use bg_processes::Printable;
+use bg_reports::Ending;
+
+/// Brings the files of a folder of matches up to date from the database that it was served with
+/// last, if it was with one. Ends with `Failed` where that can't be done.
+pub(crate) fn settle_first(rt: &HostRuntime, folder: &str) -> Result<(), Ending> {
+    let mark = match read_mark(rt, folder) {
+        Ok(Some(mark)) => mark,
+        Ok(None) => return Ok(()),
+        Err(error) => return Err(failed_at(rt, folder, "/.database could not be read", &error)),
+    };
+    match settle(rt, folder, &mark) {
+        Ok(()) => {
+            let path = Printable(mark.path.as_str());
+            say(
+                rt,
+                format_args!("the folders are brought up to date from the database {path}"),
+            );
+            Ok(())
+        }
+        Err(Unusable::File(error)) => Err(failed_at(
+            rt,
+            folder,
+            " could not be brought up to date from its database",
+            &error,
+        )),
+        Err(Unusable::Database(error)) => Err(not_settled(rt, folder, mark.path.as_str(), error)),
+        Err(Unusable::Anothers) => Err(not_settled(
+            rt,
+            folder,
+            mark.path.as_str(),
+            Error::SqliteFailure(ErrorCode::CannotOpen),
+        )),
+    }
+}
+
+/// Reports why the newest saves of a folder can't be had.
+fn not_settled(rt: &HostRuntime, folder: &str, path: &str, error: Error) -> Ending {
+    let (folder, path) = (Printable(folder), Printable(path));
+    match error {
+        Error::SqliteFailure(ErrorCode::DatabaseBusy) => is_busy(rt, path),
+        Error::SqliteFailure(ErrorCode::CannotOpen) => failed(
+            rt,
+            format_args!(
+                "the newest saves of {folder} are in the database {path}, which is not there: bring it back, and {path}-wal with it"
+            ),
+        ),
+        _ => failed(
+            rt,
+            format_args!(
+                "the newest saves of {folder} are in the database {path}, which can't be read: {error}"
+            ),
+        ),
+    }
+}
+
+/// Reports that another process has a database.
+fn is_busy(rt: &HostRuntime, path: Printable<'_>) -> Ending {
+    failed(
+        rt,
+        format_args!(
+            "another process has the database {path}: end it first; `fuser {path}` names it"
+        ),
+    )
+}
+
+/// Reports why a database can't be used.
+pub(crate) fn not_usable(rt: &HostRuntime, path: &str, error: Error) -> Ending {
+    let path = Printable(path);
+    match error {
+        Error::SqliteFailure(ErrorCode::DatabaseBusy) => is_busy(rt, path),
+        Error::SqliteFailure(ErrorCode::NotADatabase) => wrong(
+            rt,
+            format_args!("{path} is no database of a server: name a new file by --store"),
+        ),
+        _ => failed(
+            rt,
+            format_args!("the database {path} can't be used: {error}"),
+        ),
+    }
+}
+
+/// Reports that a database has the saves of another folder.
+pub(crate) fn is_anothers(rt: &HostRuntime, path: &str) -> Ending {
+    let path = Printable(path);
+    wrong(
+        rt,
+        format_args!(
+            "the database {path} has the saves of other matches: name a new file by --store"
+        ),
+    )
+}
+
+/// Says whether what was saved can be made durable, where that has changed.
+pub(crate) fn tell_outage(
+    rt: &HostRuntime,
+    path: &str,
+    before: Option<Error>,
+    after: Option<Error>,
+) {
+    let path = Printable(path);
+    match (before, after) {
+        (None, Some(error)) => say(
+            rt,
+            format_args!(
+                "the saves can't be made durable in {path}: {error}; nobody is told anything until they are"
+            ),
+        ),
+        (Some(_), None) => say(
+            rt,
+            format_args!("the saves are durable in {path} again: the matches go on"),
+        ),
+        _ => {}
+    }
+}

@@ -1,0 +1,116 @@
+//! A client that has become a socket: messages in, and what its peer lacks out.
+
+use crate::clients::Client;
+use crate::limits::{
+    HEAD_SECONDS, HELLO_SECONDS, MOST_READS, MOST_WRITES, PING_SECONDS, SILENT_SECONDS,
+    STALL_SECONDS,
+};
+use bg_site::{Site, Step, Store};
+use bg_world::Keeper;
+use std::io::ErrorKind;
+
+impl Client {
+    /// Reads messages, and answers them.
+    pub(crate) fn hear_channel<K: Keeper + Drop, S: Store<K> + Drop>(
+        &mut self,
+        site: &mut Site<K, S>,
+        now: u64,
+    ) -> Step {
+        for _ in 0..MOST_READS {
+            let Some(channel) = &mut self.channel else {
+                return Step::Gone;
+            };
+            match channel.take_messages(site) {
+                Step::Waits if channel.wants_read() => {}
+                Step::Gone => {
+                    self.is_leaving = true;
+                    return Step::Gone;
+                }
+                _ => return Step::More,
+            }
+            match channel.read_from(&mut self.stream) {
+                Ok(0) => return Step::Gone,
+                Ok(_) => self.heard = now,
+                Err(error) if error.kind() == ErrorKind::WouldBlock => return Step::Waits,
+                Err(error) if error.kind() == ErrorKind::Interrupted => {}
+                Err(_) => return Step::Gone,
+            }
+        }
+        Step::More
+    }
+
+    /// Sends what waits, and then what the peer lacks.
+    pub(crate) fn tell_channel<K: Keeper + Drop, S: Store<K> + Drop>(
+        &mut self,
+        site: &mut Site<K, S>,
+        now: u64,
+    ) -> Step {
+        match (self.send(site, now), self.state) {
+            (Step::Gone, _) | (_, Step::Gone) => Step::Gone,
+            (step, Step::Waits) => step,
+            (Step::Waits, Step::More) if self.has_output() => Step::Waits,
+            (_, Step::More) => Step::More,
+        }
+    }
+
+    /// Returns whether anything waits for it as a socket.
+    fn has_output(&self) -> bool {
+        match &self.channel {
+            Some(channel) => channel.has_output(),
+            None => false,
+        }
+    }
+
+    /// Sends what waits, and then what the peer of a socket lacks.
+    pub(crate) fn send<K: Keeper + Drop, S: Store<K> + Drop>(
+        &mut self,
+        site: &mut Site<K, S>,
+        now: u64,
+    ) -> Step {
+        let Some(channel) = &mut self.channel else {
+            return Step::Waits;
+        };
+        for _ in 0..MOST_WRITES {
+            if !channel.has_output() {
+                self.sent = now;
+                match channel.pull(site) {
+                    Step::More => {}
+                    step => return step,
+                }
+            }
+            match channel.write_to(&mut self.stream) {
+                Ok(0) => return Step::Gone,
+                Ok(_) => self.sent = now,
+                Err(error) if error.kind() == ErrorKind::WouldBlock => return Step::Waits,
+                Err(error) if error.kind() == ErrorKind::Interrupted => {}
+                Err(_) => return Step::Gone,
+            }
+        }
+        Step::More
+    }
+
+    /// Returns whether it may stay in this second. A silent peer is pinged.
+    pub(crate) fn may_stay<K: Keeper + Drop, S: Store<K> + Drop>(
+        &mut self,
+        site: &mut Site<K, S>,
+        now: u64,
+    ) -> bool {
+        let Some(channel) = &mut self.channel else {
+            return now.saturating_sub(self.since) <= HEAD_SECONDS;
+        };
+        let silent = now.saturating_sub(self.heard);
+        if silent > SILENT_SECONDS
+            || !channel.peer().is_known() && now.saturating_sub(self.since) > HELLO_SECONDS
+        {
+            return false;
+        }
+        if silent >= PING_SECONDS && now.saturating_sub(self.asked) >= PING_SECONDS {
+            self.asked = now;
+            if !channel.ask() {
+                return false;
+            }
+        }
+        !self.has_output()
+            || now.saturating_sub(self.sent) <= STALL_SECONDS && self.send(site, now) != Step::Gone
+    }
+}

@@ -1,0 +1,201 @@
+//! Whose a database is, and how the files of matches are brought up to date from it.
+//!
+//! While a folder of matches has a database, a file in it, the mark, says which; so nobody who
+//! serves or manages the folder overlooks it.
+
+use crate::seat_files::random_digits;
+use bg_console::path_in;
+use bg_journal::{Change, Error, ErrorCode, FileText, Journal};
+use bg_processes::read_saved;
+use std::alloc::AllocError;
+use std::fs::{File, OpenOptions, Permissions};
+use std::io::{ErrorKind, Write};
+use std::os::unix::fs::{OpenOptionsExt, PermissionsExt};
+use std::{fs, io};
+
+/// The name of the mark. No match has a name with a dot.
+const MARK: &str = ".database";
+
+/// The name under which a database has what says whose it is.
+const OWNER: &str = ".owner";
+
+/// The error where the database is another's, or is not there.
+const NOT_THERE: Error = Error::SqliteFailure(ErrorCode::CannotOpen);
+
+/// A file that only its owner reads and writes.
+const OWNER_ALONE: u32 = 0o600;
+
+/// Thirty-two random digits, which a folder and its database have alike.
+pub(crate) type Owner = String;
+
+/// Why a database can't be used.
+#[derive(Drop)]
+pub(crate) enum Unusable {
+    /// It could not be opened, read or written.
+    Database(Error),
+    /// A file could not be read or written.
+    File(io::Error),
+    /// It has saves of another folder.
+    Anothers,
+}
+
+impl From<Error> for Unusable {
+    fn from(error: Error) -> Unusable {
+        Unusable::Database(error)
+    }
+}
+
+impl From<io::Error> for Unusable {
+    fn from(error: io::Error) -> Unusable {
+        Unusable::File(error)
+    }
+}
+
+impl From<AllocError> for Unusable {
+    fn from(error: AllocError) -> Unusable {
+        Unusable::File(io::Error::from(error))
+    }
+}
+
+/// What a mark says: whose the database is, and where it is.
+#[derive(Drop)]
+pub(crate) struct Mark {
+    owner: Owner,
+    pub(crate) path: String,
+}
+
+/// Returns what the mark of a folder says, if it has one.
+///
+/// # Errors
+/// Why it could not be read; `InvalidData` where it says something else.
+pub(crate) fn read_mark(rt: &HostRuntime, folder: &str) -> io::Result<Option<Mark>> {
+    let path = path_in(rt.alloc(), folder, MARK)?;
+    let text = match fs::read_to_string(rt, path.as_str()) {
+        Err(error) if error.kind() == ErrorKind::NotFound => return Ok(None),
+        read => read?,
+    };
+    match text.as_str().split_once('\n') {
+        Some((owner, rest)) if rest.ends_with('\n') => Ok(Some(Mark {
+            owner: String::from_str(rt.alloc(), owner)?,
+            path: String::from_str(rt.alloc(), rest.trim_end_matches('\n'))?,
+        })),
+        _ => Err(io::Error::from(ErrorKind::InvalidData)),
+    }
+}
+
+/// Opens the database of this owner, which is there.
+///
+/// # Errors
+/// `CannotOpen` where it is not, or another one has come into its place; or why it could not be
+/// opened.
+pub(crate) fn adopt(rt: &HostRuntime, path: &str, owner: &Owner) -> Result<Journal, Error> {
+    let (journal, found) = open_there(rt, path)?;
+    match found {
+        Some(found) if found.as_slice() == owner.as_bytes() => Ok(journal),
+        _ => Err(NOT_THERE),
+    }
+}
+
+/// Opens a database that is there, and returns whose it is, if anybody's.
+fn open_there(rt: &HostRuntime, path: &str) -> Result<(Journal, Option<Vec<u8>>), Error> {
+    if fs::metadata(rt, path).is_err() {
+        return Err(NOT_THERE);
+    }
+    let mut journal = Journal::open(rt, path)?;
+    let found = journal.find(OWNER)?;
+    Ok((journal, found))
+}
+
+/// Brings the files of a folder up to date from the database that its mark names, and lets go of
+/// that. A kill in the midst loses nothing: the next call does it again. One that comes at the end
+/// leaves a database without files, as one at the beginning of [`begin`] does.
+///
+/// # Errors
+/// Why it can't be done. Then the folder still has its database.
+pub(crate) fn settle(rt: &HostRuntime, folder: &str, mark: &Mark) -> Result<(), Unusable> {
+    let (mut journal, found) = open_there(rt, mark.path.as_str())?;
+    let files = journal.files()?;
+    match found {
+        Some(found) if found.as_slice() == mark.owner.as_bytes() => {}
+        None if files.is_empty() => {}
+        _ => return Err(Unusable::Database(NOT_THERE)),
+    }
+    for file in files.iter() {
+        settle_file(rt, folder, file)?;
+    }
+    journal.clear()?;
+    let path = path_in(rt.alloc(), folder, MARK)?;
+    fs::remove_file(rt, path.as_str())?;
+    File::open(rt, folder)?.sync_all()?;
+    Ok(())
+}
+
+/// Brings a file up to date. What lies in a folder that isn't there any more is passed over.
+fn settle_file(rt: &HostRuntime, folder: &str, file: &FileText) -> io::Result<()> {
+    let Some((name, _)) = file.name.as_str().split_once('/') else {
+        return Ok(());
+    };
+    let above = path_in(rt.alloc(), folder, name)?;
+    if fs::metadata(rt, above.as_str()).is_err() {
+        return Ok(());
+    }
+    let path = path_in(rt.alloc(), folder, file.name.as_str())?;
+    if read_saved(rt, path.as_str())? != file.text {
+        write_through(rt, path.as_str(), &file.text)?;
+    } else {
+        File::open(rt, path.as_str())?.sync_all()?;
+    }
+    File::open(rt, above.as_str())?.sync_all()
+}
+
+/// Writes a file, and makes it durable.
+fn write_through(rt: &HostRuntime, path: &str, bytes: &[u8]) -> io::Result<()> {
+    let mut file = OpenOptions::new()
+        .write(true)
+        .create(true)
+        .truncate(true)
+        .mode(OWNER_ALONE)
+        .open(rt, path)?;
+    file.write_all(bytes)?;
+    file.sync_all()
+}
+
+/// Gives a folder a database, which is made where there is none, and notes that in the folder.
+///
+/// # Errors
+/// `Anothers` where it has anything already; or why it could not be opened or written.
+pub(crate) fn begin(
+    rt: &HostRuntime,
+    folder: &str,
+    path: &str,
+) -> Result<(Journal, Owner), Unusable> {
+    let mut journal = Journal::open(rt, path)?;
+    if !journal.files()?.is_empty() {
+        return Err(Unusable::Anothers);
+    }
+    close_to_others(rt, path)?;
+    let owner = random_digits(rt, 16)?;
+    write_mark(rt, folder, path, owner.as_str())?;
+    let text = owner.as_bytes().to_vec(rt.alloc())?;
+    let name = String::from_str(rt.alloc(), OWNER)?;
+    journal.write(&[Change::Put(FileText { name, text })])?;
+    Ok((journal, owner))
+}
+
+/// Has a database, and its log, read by their owner alone, as saved files are.
+fn close_to_others(rt: &HostRuntime, path: &str) -> io::Result<()> {
+    fs::set_permissions(rt, path, Permissions::from_mode(OWNER_ALONE))?;
+    let log = format!(in rt.alloc(); "{path}-wal")?;
+    fs::set_permissions(rt, log.as_str(), Permissions::from_mode(OWNER_ALONE))
+}
+
+/// Writes the mark of a folder. It is whole at any moment.
+fn write_mark(rt: &HostRuntime, folder: &str, path: &str, owner: &str) -> io::Result<()> {
+    let whole = fs::canonicalize(rt, path)?;
+    let mark = path_in(rt.alloc(), folder, MARK)?;
+    let beside = path_in(rt.alloc(), folder, ".database.new")?;
+    let text = format!(in rt.alloc(); "{owner}\n{}\n", whole.as_str())?;
+    write_through(rt, beside.as_str(), text.as_bytes())?;
+    fs::rename(rt, beside.as_str(), mark.as_str())?;
+    File::open(rt, folder)?.sync_all()
+}

@@ -1,0 +1,105 @@
+//! The saves of a turn of the server, which are made durable together.
+
+use bg_console::slot_path;
+use bg_journal::{Change, FileText, Newest, newest_of};
+use bg_wire::Slot;
+use bg_world::DeviceFault;
+use std::alloc::{AllocError, Global};
+use std::cell::RefCell;
+use std::rc::Rc;
+
+/// The changes of files that are not durable yet, in their order, and those that are durable in the
+/// database while their files may be older.
+#[derive(Drop)]
+pub(crate) struct TurnSaves {
+    pub(crate) fresh: RefCell<Vec<Change>>,
+    pub(crate) behind: RefCell<Vec<FileText>>,
+}
+
+impl TurnSaves {
+    /// Creates a turn without saves.
+    pub(crate) fn new(alloc: Global) -> TurnSaves {
+        TurnSaves {
+            fresh: RefCell::new(Vec::new(alloc)),
+            behind: RefCell::new(Vec::new(alloc)),
+        }
+    }
+
+    /// Adds a change.
+    fn add(&self, change: Change) -> Result<(), DeviceFault> {
+        match self.fresh.try_borrow_mut() {
+            Ok(mut fresh) => Ok(fresh.push(change)?),
+            Err(_) => Err(DeviceFault::Failed),
+        }
+    }
+
+    /// Notes that the files of a match are gone.
+    pub(crate) fn remove(&self, alloc: Global, name: &str) -> Result<(), DeviceFault> {
+        let name = String::from_str(alloc, name)?;
+        self.add(Change::Remove(name))
+    }
+
+    /// Returns the text that a file has in the database, or will have at the end of the turn, where
+    /// the file itself may be older.
+    pub(crate) fn newest(&self, alloc: Global, name: &str) -> Result<Option<Vec<u8>>, DeviceFault> {
+        let (Ok(fresh), Ok(behind)) = (self.fresh.try_borrow(), self.behind.try_borrow()) else {
+            return Err(DeviceFault::Failed);
+        };
+        match newest_of(&fresh, name) {
+            Newest::Text(text) => return Ok(Some(text.to_vec(alloc)?)),
+            Newest::Gone => return Ok(None),
+            Newest::Unchanged => {}
+        }
+        for file in behind.iter() {
+            if file.name.as_str() == name {
+                return Ok(Some(file.text.as_slice().to_vec(alloc)?));
+            }
+        }
+        Ok(None)
+    }
+}
+
+/// The slots of a party whose saves are made durable with those of the turn.
+#[derive(Drop)]
+pub(crate) struct TurnSlots {
+    alloc: Global,
+    saves: Rc<TurnSaves>,
+    zero: String,
+    one: String,
+}
+
+impl TurnSlots {
+    /// Creates the slots of a party of the match of this name.
+    pub(crate) fn new(
+        alloc: Global,
+        saves: Rc<TurnSaves>,
+        name: &str,
+        party: u8,
+    ) -> Result<TurnSlots, AllocError> {
+        Ok(TurnSlots {
+            alloc,
+            saves,
+            zero: slot_path(alloc, name, party, Slot::Zero)?,
+            one: slot_path(alloc, name, party, Slot::One)?,
+        })
+    }
+
+    fn name(&self, slot: Slot) -> &str {
+        match slot {
+            Slot::Zero => self.zero.as_str(),
+            Slot::One => self.one.as_str(),
+        }
+    }
+
+    /// Adds the text of a slot to the saves of the turn.
+    pub(crate) fn write(&self, slot: Slot, text: &[u8]) -> Result<(), DeviceFault> {
+        let name = String::from_str(self.alloc, self.name(slot))?;
+        let text = text.to_vec(self.alloc)?;
+        self.saves.add(Change::Put(FileText { name, text }))
+    }
+
+    /// Returns the text of a slot where its file may be older.
+    pub(crate) fn newest(&self, slot: Slot) -> Result<Option<Vec<u8>>, DeviceFault> {
+        self.saves.newest(self.alloc, self.name(slot))
+    }
+}
