@@ -135,7 +135,8 @@ def turn_by_chance(state, chance):
 
 class Player(threading.Thread):
     """One who plays by chance. He sends what he has chosen again, until it is answered, also after the server was away.
-    `told` has each entry that he was told, by its number; `conflicts` counts those that he was told otherwise before."""
+    `told` has each entry that he was told, by its number; `conflicts` counts those that he was told otherwise before, and the
+    states that lack one of them."""
 
     def __init__(self, port, secret, seed, pause=0.0):
         super().__init__(daemon=True)
@@ -183,6 +184,7 @@ class Player(threading.Thread):
 
     def hear(self, state):
         first = state["number"] - len(state["last"]) + 1
+        self.conflicts += bool(self.told) and state["number"] < max(self.told)
         for number, line in enumerate(state["last"], first):
             self.conflicts += self.told.setdefault(number, line) != line
         self.over = state["winner"] != ""

@@ -46,6 +46,12 @@ class Stored(Served):
         return self.process.stderr.read().decode()
 
 
+def begin_answering(server):
+    """Begins a server, and waits until it answers: its port takes connections before its database is open."""
+    server.begin()
+    right(server.ask("/health")[0] == 200, "a server does not answer")
+
+
 def play_over_kills(server):
     """Bots play four matches to the end, while the server is killed three times."""
     made = [server.make(length=1 + index % 2, x=f"x{index}") for index in range(4)]
@@ -56,7 +62,7 @@ def play_over_kills(server):
         server.begin()
     players = [player for both in seated.values() for player in both]
     right(wait_for(players, 240), f"with a database a match did not end: {[player.fault for player in players]}")
-    right(sum(player.conflicts for player in players) == 0, "with a database an entry was told otherwise later")
+    right(sum(player.conflicts for player in players) == 0, "with a database an entry was told otherwise later, or not any more")
     for name, both in seated.items():
         compare_told(server, name, both)
     modes = [os.stat(server.store + end).st_mode & 0o777 for end in ("", "-wal")]
@@ -72,7 +78,8 @@ def act_and_restore(server):
     right(manage(server, "--backup", copies)[0] == 0, "copies beside a database")
     for number, words in ((2, "resign normal"), (3, "reject"), (4, "resign gammon"), (5, "reject")):
         key = bearer(made[state_of(server, name)["turn"].lower()])
-        right(server.ask(path, f"{number} {words}".encode(), key)[2] == b'{"re":2,"done":true}', f"entry {number}")
+        answer = server.ask(path, f"{number} {words}".encode(), key)[2]
+        right(answer == b'{"re":%d,"done":true}' % number, f"entry {number} is answered {answer}")
     right(manage(server, "--match", name, "--delete") == (0, "", ""), "deleting beside a database")
     right(manage(server, "--restore", copies)[:2] == (0, "matches restored: 1\n"), "restoring beside a database")
     before = lines_of(server, name)
@@ -109,7 +116,7 @@ def refuse_databases(server, room):
     server.kill()
     refused([*serve, server.store], 2, f"the database {server.store} has the saves of other matches: name a new file")
     right(".database" not in os.listdir(other), "a folder has a database that was refused")
-    server.begin()
+    begin_answering(server)
 
 
 def go_on_without(server, seated):
@@ -124,7 +131,7 @@ def go_on_without(server, seated):
     right(".database" not in os.listdir(server.folder), "a folder has its database still")
     for end in ("", "-wal"):
         os.remove(server.store + end)
-    server.begin()
+    begin_answering(server)
     right(SETTLED not in server.end(), "a database is looked at that is not there any more")
 
 

@@ -28,7 +28,7 @@ def play_with_kills(server, matches, kills):
     wait_for(players)
     right(all(player.over for player in players), "a match did not end")
     right(not [player.fault for player in players if player.fault], f"{[player.fault for player in players if player.fault]}")
-    right(sum(player.conflicts for player in players) == 0, "an entry was told otherwise later")
+    right(sum(player.conflicts for player in players) == 0, "an entry was told otherwise later, or not any more")
     right(kills == 0 or sum(player.away for player in players) > 0, "no player has missed the server")
     for name, both in seated.items():
         compare_told(server, name, both)
