@@ -70,7 +70,10 @@ fn a_journal_has_the_newest_texts_also_when_opened_anew(rt: HostRuntime) -> io::
         .ok()
         .flatten()
         .unwrap_or(Vec::new(alloc));
-    assert!(rt; found.as_slice() == b"three", "found by its name");
+    assert!(rt;
+        found.as_slice() == b"three".as_slice(),
+        "found by its name"
+    );
     assert!(rt;
         matches!(journal.find("b"), Ok(None)),
         "no file has this name"
@@ -127,9 +130,9 @@ fn the_last_change_of_a_file_decides(rt: HostRuntime) -> io::Result<()> {
         remove(alloc, "c")?,
     ];
     let rows = [
-        ("a/1", Newest::Text(b"three")),
-        ("a/2", Newest::Text(b"two")),
-        ("b/1", Newest::Text(b"four")),
+        ("a/1", Newest::Text(b"three".as_slice())),
+        ("a/2", Newest::Text(b"two".as_slice())),
+        ("b/1", Newest::Text(b"four".as_slice())),
         ("b/2", Newest::Gone),
         ("c/1", Newest::Gone),
         ("cc/1", Newest::Unchanged),
@@ -140,7 +143,7 @@ fn the_last_change_of_a_file_decides(rt: HostRuntime) -> io::Result<()> {
         assert!(rt; newest_of(&changes, name) == wanted, "the file {name}");
     }
     assert!(rt;
-        newest_of(&changes[..1], "a/1") == Newest::Text(b"one"),
+        newest_of(&changes[..1], "a/1") == Newest::Text(b"one".as_slice()),
         "one change alone"
     );
     Ok(())
