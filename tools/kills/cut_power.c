@@ -1,7 +1,8 @@
 /* To be preloaded: keeps what a disk has when the power is cut, and cuts it. ROOT is a folder, and MIRROR one that keeps
  * what is durable of it: a file as it was at its last sync that succeeded, under the name that it has. CUT_AT is the number
  * of the call that changes a file below ROOT, from 1, at which the process ends with status 137; CUT_HOW says whether that
- * is before the call (0), behind it (1), or with half of what it writes (2). While there is a file that REFUSE names, each sync
+ * is before the call (0), behind it (1), or with half of what it writes (2). With SERVING, calls are counted from when the
+ * first connection is accepted. While there is a file that REFUSE names, each sync
  * below ROOT gives EIO, and nothing is durable. */
 #define _GNU_SOURCE
 #include <dlfcn.h>
@@ -12,10 +13,12 @@
 #include <stdio.h>
 #include <stdlib.h>
 #include <string.h>
+#include <sys/socket.h>
 #include <sys/stat.h>
 #include <unistd.h>
 
 static long calls;
+static int serving;
 
 static long number(const char *name)
 {
@@ -78,7 +81,7 @@ static void keep(const char *path, const char *rest)
 /* Counts a call, and says whether it is the last one. */
 static int is_last(const char *rest)
 {
-    return rest && ++calls == number("CUT_AT");
+    return rest && (serving || !getenv("SERVING")) && ++calls == number("CUT_AT");
 }
 
 static void end_before(int last)
@@ -96,6 +99,14 @@ static void end_behind(int last)
 static size_t half_of(int last, size_t count)
 {
     return last && number("CUT_HOW") == 2 ? count / 2 : count;
+}
+
+int accept4(int fd, struct sockaddr *peer, socklen_t *length, int flags)
+{
+    int (*real)(int, struct sockaddr *, socklen_t *, int) = dlsym(RTLD_NEXT, "accept4");
+    int accepted = real(fd, peer, length, flags);
+    serving |= accepted >= 0;
+    return accepted;
 }
 
 ssize_t write(int fd, const void *bytes, size_t count)
