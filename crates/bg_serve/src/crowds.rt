@@ -136,9 +136,6 @@ impl<'a> Server<'a> {
         }
         self.looked = now;
         self.is_accepting = true;
-        if let Some(database) = &self.database {
-            database.catch_up();
-        }
         self.take_changes();
         let connections = self.clients.iter().flatten().count();
         self.site.note_connections(connections as u64);

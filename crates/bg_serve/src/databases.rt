@@ -3,20 +3,25 @@
 //! their own; they are brought up to date from the database when it is given up, or at the next
 //! start (docs/SERVING.md, "A database").
 
+use crate::folders::FolderStore;
 use crate::save_counts::{SaveCounts, micros_since};
-use crate::settling::{Owner, adopt};
+use crate::settling::{NOT_THERE, Owner, Unusable, adopt, begin};
 use crate::turn_saves::TurnSaves;
 use bg_console::path_in;
 use bg_journal::{Change, Error, FileText, Journal, is_below};
+use mio::{Events, Poll};
 use std::fs::OpenOptions;
 use std::io;
 use std::io::Write;
 use std::os::unix::fs::OpenOptionsExt;
 use std::rc::Rc;
-use std::time::Instant;
+use std::time::{Duration, Instant};
 
 /// A file that only its owner reads and writes.
 const OWNER_ALONE: u32 = 0o600;
+
+/// So many milliseconds are between two tries to commit.
+const BETWEEN_COMMITS: u64 = 100;
 
 /// The database of a server.
 #[derive(Drop)]
@@ -33,25 +38,30 @@ pub(crate) struct Database<'a> {
 }
 
 impl<'a> Database<'a> {
-    /// Has the saves of a folder of matches gathered in `saves` written to a database.
-    pub(crate) fn new(
+    /// Opens the database of a folder of matches, which is made where there is none. The saves of
+    /// the store are gathered for it from now on.
+    ///
+    /// # Errors
+    /// Why it can't be used.
+    pub(crate) fn begin(
         rt: &'a HostRuntime,
         folder: &'a str,
         path: &'a str,
-        owned: (Journal, Owner),
-        saves: Rc<TurnSaves>,
-        counts: Rc<SaveCounts>,
-    ) -> Database<'a> {
-        let (journal, owner) = owned;
-        Database {
+        store: &mut FolderStore<'a>,
+    ) -> Result<Database<'a>, Unusable> {
+        let owner = begin(rt, folder, path)?;
+        let (saves, counts) = store.gather()?;
+        let mut database = Database {
             rt,
             folder,
             path,
             owner,
-            journal: Some(journal),
+            journal: None,
             saves,
             counts,
-        }
+        };
+        database.open()?;
+        Ok(database)
     }
 
     /// Makes durable what was saved in the turn, and writes the files then. Until this succeeds,
@@ -76,20 +86,41 @@ impl<'a> Database<'a> {
         self.counts
             .note_commit(result.is_ok(), micros_since(self.rt, begun));
         result?;
+        self.catch_up(&mut behind);
         for change in fresh.drain(..) {
             self.follow(&mut behind, change);
         }
         Ok(())
     }
 
-    /// Writes changes to the database. After a failure it is opened anew.
+    /// Waits a while, where a commit has failed.
+    ///
+    /// # Errors
+    /// Why nothing can be waited for.
+    pub(crate) fn pause(&self) -> io::Result<()> {
+        let mut poll = Poll::new(self.rt)?;
+        let mut events = Events::with_capacity(self.rt.alloc(), 1)?;
+        poll.poll(&mut events, Some(Duration::from_millis(BETWEEN_COMMITS)))
+    }
+
+    /// Writes changes to the database, which is opened anew after a failure.
     fn write(&mut self, changes: &[Change]) -> Result<(), Error> {
-        let mut journal = match self.journal.take() {
-            Some(journal) => journal,
-            None => adopt(self.rt, self.path, &self.owner)?,
+        self.open()?;
+        let written = match &mut self.journal {
+            Some(journal) => journal.write(changes),
+            None => Err(NOT_THERE),
         };
-        journal.write(changes)?;
-        self.journal = Some(journal);
+        if written.is_err() {
+            self.journal = None;
+        }
+        written
+    }
+
+    /// Opens the database, unless it is open.
+    fn open(&mut self) -> Result<(), Error> {
+        if self.journal.is_none() {
+            self.journal = Some(adopt(self.rt, self.path, &self.owner)?);
+        }
         Ok(())
     }
 
@@ -110,8 +141,8 @@ impl<'a> Database<'a> {
     }
 
     /// Writes the files again that could not be written.
-    pub(crate) fn catch_up(&self) {
-        if let Ok(mut behind) = self.saves.behind.try_borrow_mut() {
+    fn catch_up(&self, behind: &mut Vec<FileText>) {
+        if !behind.is_empty() {
             behind.retain(|file| self.write_file(file).is_err());
         }
     }

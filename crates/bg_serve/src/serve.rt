@@ -1,13 +1,17 @@
 //! The command that serves matches to browsers.
 
 use crate::database_words::{is_anothers, not_usable, settle_first, tell_outage};
+use crate::databases::Database;
+use crate::folders::FolderStore;
 use crate::servers::Server;
 use crate::settling::Unusable;
+use crate::sockets::Sockets;
 use crate::tables::check_of_all;
 use bg_console::{failed, failed_or, own_folder, say, say_failures};
 use bg_options::ServeOptions;
 use bg_processes::{Failures, Printable};
 use bg_reports::Ending;
+use std::io;
 use std::io::ErrorKind;
 
 /// The words on what a server needs to begin, and to go on.
@@ -32,9 +36,8 @@ pub fn run(rt: &HostRuntime, options: ServeOptions<'_>) -> Result<Ending, Ending
     let _lock = own_folder(rt, folder)?;
     settle_first(rt, folder)?;
     let failures = Failures::new();
-    let begun = Server::begin_with(rt, folder, port, &failures, database);
-    let mut server = match begun {
-        Ok(server) => server,
+    let (mut server, mut database) = match begun(rt, &options, &failures) {
+        Ok(begun) => begun,
         Err(why) => return Err(not_begun(rt, port, database.unwrap_or_default(), why)),
     };
     server.site.set_idle(u64::from(idle_hours) * 60);
@@ -42,7 +45,7 @@ pub fn run(rt: &HostRuntime, options: ServeOptions<'_>) -> Result<Ending, Ending
     if tells_requests {
         server.site.keep_log();
     }
-    go_on(rt, &mut server, options, &failures)
+    go_on(rt, &mut server, &mut database, options, &failures)
 }
 
 /// Reports why the matches of a folder can't be served at a port, or with a database.
@@ -62,26 +65,63 @@ fn not_begun(rt: &HostRuntime, port: u16, database: &str, why: Unusable) -> Endi
     }
 }
 
-/// Lets a server take its turns.
+/// Binds the port, opens the database, if one is named, and takes in the matches of the folder.
+fn begun<'a>(
+    rt: &'a HostRuntime,
+    options: &ServeOptions<'a>,
+    failures: &'a Failures,
+) -> Result<(Server<'a>, Option<Database<'a>>), Unusable> {
+    let mut store = FolderStore::new(rt, options.folder, failures)?;
+    let sockets = Sockets::bind(rt, options.port)?;
+    let database = match options.database {
+        Some(path) => Some(Database::begin(rt, options.folder, path, &mut store)?),
+        None => None,
+    };
+    Ok((Server::begin_over(rt, sockets, store)?, database))
+}
+
+/// Lets a server take its turns. What was saved in one is committed before anybody is told of it.
 fn go_on(
     rt: &HostRuntime,
     server: &mut Server<'_>,
+    database: &mut Option<Database<'_>>,
     options: ServeOptions<'_>,
     failures: &Failures,
 ) -> Result<Ending, Ending> {
     for _ in 0..u64::MAX {
-        let before = server.held_back();
-        match server.turn() {
-            Ok(made) => tell_counts(rt, made, server.ended(), server.changed()),
-            Err(error) => return Err(failed_or(rt, NOT_WAITED, &error, MORE_FILES)),
+        let now = waited(rt, server.hear())?;
+        if let Some(database) = database {
+            commit(rt, database, options.database.unwrap_or_default())?;
         }
-        if let Some(path) = options.database {
-            tell_outage(rt, path, before, server.held_back());
-        }
+        let made = waited(rt, server.tell(now))?;
+        tell_counts(rt, made, server.ended(), server.changed());
         tell_requests(rt, server);
         say_failures(rt, failures, options.folder);
     }
     Ok(Ending::Served)
+}
+
+/// Commits what was saved in a turn. Tries it again as long as it fails, and says so.
+fn commit(rt: &HostRuntime, database: &mut Database<'_>, path: &str) -> Result<(), Ending> {
+    let mut failed = None;
+    for _ in 0..u64::MAX {
+        let before = failed;
+        failed = database.commit().err();
+        tell_outage(rt, path, before, failed);
+        if failed.is_none() {
+            return Ok(());
+        }
+        waited(rt, database.pause())?;
+    }
+    Ok(())
+}
+
+/// Returns what was waited for; reports why the sockets can't be.
+fn waited<T>(rt: &HostRuntime, attempt: io::Result<T>) -> Result<T, Ending> {
+    match attempt {
+        Ok(value) => Ok(value),
+        Err(error) => Err(failed_or(rt, NOT_WAITED, &error, MORE_FILES)),
+    }
 }
 
 /// Says what is served, and where.

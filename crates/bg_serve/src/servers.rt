@@ -1,14 +1,11 @@
 //! The server: its matches, its listener and its clients.
 
 use crate::clients::Client;
-use crate::databases::Database;
 use crate::folders::FolderStore;
 use crate::limits::MOST_MADE;
 use crate::quotas::Quota;
 use crate::served_keepers::ServedKeeper;
-use crate::settling::{Unusable, begin};
 use crate::sockets::Sockets;
-use bg_journal::Error;
 use bg_processes::{Failures, FolderLock};
 use bg_requests::is_name;
 use bg_site::Site;
@@ -26,10 +23,6 @@ pub(crate) const LISTENER: Token = Token(0);
 pub struct Server<'a> {
     pub(crate) rt: &'a HostRuntime,
     pub(crate) site: Site<ServedKeeper<'a>, FolderStore<'a>>,
-    /// Where the saves of a turn are made durable, if that isn't in the folders themselves.
-    pub(crate) database: Option<Database<'a>>,
-    /// Why the saves of the last turn are not durable yet. As long as they are not, nothing is told.
-    pub(crate) held_back: Option<Error>,
     /// The names of what looks like a match in the folder, and can't be served.
     left_out: Vec<String>,
     /// The locks of folders that others might play over.
@@ -47,6 +40,8 @@ pub struct Server<'a> {
     changed: u64,
     /// How many matches were told to have ended.
     ended: u64,
+    /// How many matches were made until the last turn.
+    pub(crate) made: u64,
     pub(crate) start: Instant,
     /// The second in which all were looked at last, and the tenth in which matches ticked last.
     pub(crate) looked: u64,
@@ -66,35 +61,21 @@ impl<'a> Server<'a> {
         port: u16,
         failures: &'a Failures,
     ) -> io::Result<Server<'a>> {
-        match Server::begin_with(rt, folder, port, failures, None) {
-            Ok(server) => Ok(server),
-            Err(Unusable::File(error)) => Err(error),
-            Err(_) => Err(io::Error::from(io::ErrorKind::Other)),
-        }
+        let store = FolderStore::new(rt, folder, failures)?;
+        let sockets = Sockets::bind(rt, port)?;
+        Server::begin_over(rt, sockets, store)
     }
 
-    /// Begins like [`Server::begin`]. What matches save in a turn is made durable in a database, if
-    /// one is named, which is made where there is none.
+    /// Takes in the matches of a store, and serves them at these sockets.
     ///
     /// # Errors
-    /// Why the port could not be bound, the folder could not be read, or the database can't be
-    /// used.
-    pub(crate) fn begin_with(
+    /// Why the folder could not be read.
+    pub(crate) fn begin_over(
         rt: &'a HostRuntime,
-        folder: &'a str,
-        port: u16,
-        failures: &'a Failures,
-        database: Option<&'a str>,
-    ) -> Result<Server<'a>, Unusable> {
-        let start = Instant::now(rt)?;
-        let mut store = FolderStore::new(rt, folder, failures)?;
-        let sockets = Sockets::bind(rt, port)?;
-        let database = match database {
-            Some(path) => Some(open_database(rt, folder, path, &mut store)?),
-            None => None,
-        };
-        let mut server = Server::over(rt, sockets, store, start);
-        server.database = database;
+        sockets: Sockets,
+        store: FolderStore<'a>,
+    ) -> io::Result<Server<'a>> {
+        let mut server = Server::over(rt, sockets, store, Instant::now(rt)?);
         server.open_all()?;
         Ok(server)
     }
@@ -109,8 +90,6 @@ impl<'a> Server<'a> {
         Server {
             rt,
             site: Site::new(rt.alloc(), store),
-            database: None,
-            held_back: None,
             left_out: Vec::new(rt.alloc()),
             locks: Vec::new(rt.alloc()),
             poll: sockets.poll,
@@ -122,6 +101,7 @@ impl<'a> Server<'a> {
             quota: Quota::new(MOST_MADE),
             changed: 0,
             ended: 0,
+            made: 0,
             start,
             looked: 0,
             ticked: 0,
@@ -222,21 +202,4 @@ impl<'a> Server<'a> {
     pub fn left_out(&self) -> &[String] {
         &self.left_out
     }
-
-    /// Returns why the saves of the last turn could not be made durable; None where they are.
-    pub fn held_back(&self) -> Option<Error> {
-        self.held_back
-    }
-}
-
-/// Opens the database of a folder, to which the saves of the store go from now on.
-fn open_database<'a>(
-    rt: &'a HostRuntime,
-    folder: &'a str,
-    path: &'a str,
-    store: &mut FolderStore<'a>,
-) -> Result<Database<'a>, Unusable> {
-    let owned = begin(rt, folder, path)?;
-    let (saves, counts) = store.gather()?;
-    Ok(Database::new(rt, folder, path, owned, saves, counts))
 }

@@ -20,7 +20,7 @@ const MARK: &str = ".database";
 const OWNER: &str = ".owner";
 
 /// The error where the database is another's, or is not there.
-const NOT_THERE: Error = Error::SqliteFailure(ErrorCode::CannotOpen);
+pub(crate) const NOT_THERE: Error = Error::SqliteFailure(ErrorCode::CannotOpen);
 
 /// A file that only its owner reads and writes.
 const OWNER_ALONE: u32 = 0o600;
@@ -89,21 +89,19 @@ pub(crate) fn read_mark(rt: &HostRuntime, folder: &str) -> io::Result<Option<Mar
 /// `CannotOpen` where it is not, or another one has come into its place; or why it could not be
 /// opened.
 pub(crate) fn adopt(rt: &HostRuntime, path: &str, owner: &Owner) -> Result<Journal, Error> {
-    let (journal, found) = open_there(rt, path)?;
-    match found {
+    let mut journal = open_there(rt, path)?;
+    match journal.find(OWNER)? {
         Some(found) if found.as_slice() == owner.as_bytes() => Ok(journal),
         _ => Err(NOT_THERE),
     }
 }
 
-/// Opens a database that is there, and returns whose it is, if anybody's.
-fn open_there(rt: &HostRuntime, path: &str) -> Result<(Journal, Option<Vec<u8>>), Error> {
+/// Opens a database that is there.
+fn open_there(rt: &HostRuntime, path: &str) -> Result<Journal, Error> {
     if fs::metadata(rt, path).is_err() {
         return Err(NOT_THERE);
     }
-    let mut journal = Journal::open(rt, path)?;
-    let found = journal.find(OWNER)?;
-    Ok((journal, found))
+    Journal::open(rt, path)
 }
 
 /// Brings the files of a folder up to date from the database that its mark names, and lets go of
@@ -113,9 +111,9 @@ fn open_there(rt: &HostRuntime, path: &str) -> Result<(Journal, Option<Vec<u8>>)
 /// # Errors
 /// Why it can't be done. Then the folder still has its database.
 pub(crate) fn settle(rt: &HostRuntime, folder: &str, mark: &Mark) -> Result<(), Unusable> {
-    let (mut journal, found) = open_there(rt, mark.path.as_str())?;
+    let mut journal = open_there(rt, mark.path.as_str())?;
     let files = journal.files()?;
-    match found {
+    match journal.find(OWNER)? {
         Some(found) if found.as_slice() == mark.owner.as_bytes() => {}
         None if files.is_empty() => {}
         _ => return Err(Unusable::Database(NOT_THERE)),
@@ -161,14 +159,11 @@ fn write_through(rt: &HostRuntime, path: &str, bytes: &[u8]) -> io::Result<()> {
 }
 
 /// Gives a folder a database, which is made where there is none, and notes that in the folder.
+/// Returns what says whose it is.
 ///
 /// # Errors
 /// `Anothers` where it has anything already; or why it could not be opened or written.
-pub(crate) fn begin(
-    rt: &HostRuntime,
-    folder: &str,
-    path: &str,
-) -> Result<(Journal, Owner), Unusable> {
+pub(crate) fn begin(rt: &HostRuntime, folder: &str, path: &str) -> Result<Owner, Unusable> {
     let mut journal = Journal::open(rt, path)?;
     if !journal.files()?.is_empty() {
         return Err(Unusable::Anothers);
@@ -179,7 +174,7 @@ pub(crate) fn begin(
     let text = owner.as_bytes().to_vec(rt.alloc())?;
     let name = String::from_str(rt.alloc(), OWNER)?;
     journal.write(&[Change::Put(FileText { name, text })])?;
-    Ok((journal, owner))
+    Ok(owner)
 }
 
 /// Has a database, and its log, read by their owner alone, as saved files are.

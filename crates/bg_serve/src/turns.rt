@@ -1,39 +1,22 @@
-//! The turns of a server: it hears its clients, makes durable what was saved, and only then tells.
+//! The turns of a server: it hears its clients, and, once what was saved is durable, tells them.
 
 use crate::servers::Server;
-use bg_journal::Error;
-use mio::{Events, Poll};
 use std::io;
 use std::time::{Duration, Instant};
 
-/// So many milliseconds are between two tries to make saves durable.
-const BETWEEN_COMMITS: u64 = 100;
-
 impl<'a> Server<'a> {
-    /// Waits until something is to be done, and does it. What was saved is made durable before
-    /// anybody is told: while that fails, the server does nothing else. Returns how many matches
-    /// were made.
+    /// Waits until something is to be done, does it, and tells the clients. Returns how many matches
+    /// were made. What was saved is durable before, as where there is no database.
     ///
     /// # Errors
     /// Why the sockets can't be waited for, or there is no memory.
     pub fn turn(&mut self) -> io::Result<u64> {
-        let made = self.site.made();
-        let now = match self.held_back {
-            None => self.hear()?,
-            Some(_) => self.pause()?,
-        };
-        self.held_back = self.commit();
-        if self.held_back.is_some() {
-            return Ok(0);
-        }
-        self.tell(now)?;
-        let made = self.site.made().saturating_sub(made);
-        self.quota.take(made);
-        Ok(made)
+        let now = self.hear()?;
+        self.tell(now)
     }
 
     /// Waits until something is to be done, and does it, but tells nobody. Returns the second.
-    fn hear(&mut self) -> io::Result<u64> {
+    pub(crate) fn hear(&mut self) -> io::Result<u64> {
         self.wait()?;
         let since = Instant::now(self.rt)?.duration_since(self.start);
         let now = since.as_secs();
@@ -45,32 +28,18 @@ impl<'a> Server<'a> {
         Ok(now)
     }
 
-    /// Waits a while, and returns the second.
-    fn pause(&self) -> io::Result<u64> {
-        let (mut poll, mut events) = (
-            Poll::new(self.rt)?,
-            Events::with_capacity(self.rt.alloc(), 1)?,
-        );
-        poll.poll(&mut events, Some(Duration::from_millis(BETWEEN_COMMITS)))?;
-        Ok(Instant::now(self.rt)?.duration_since(self.start).as_secs())
-    }
-
-    /// Makes durable what was saved in the turn. Returns why it could not be.
-    fn commit(&mut self) -> Option<Error> {
-        match &mut self.database {
-            Some(database) => database.commit().err(),
-            None => None,
-        }
-    }
-
-    /// Tells the clients what came of the turn.
-    fn tell(&mut self, now: u64) -> io::Result<()> {
+    /// Tells the clients what came of the turn, once what was saved in it is durable. Returns how
+    /// many matches were made.
+    pub(crate) fn tell(&mut self, now: u64) -> io::Result<u64> {
         self.look(now);
         self.tell_heard(now)?;
         if self.site.has_news() {
             self.send_news(now)?;
         }
-        Ok(())
+        let made = self.site.made().saturating_sub(self.made);
+        self.made = self.site.made();
+        self.quota.take(made);
+        Ok(made)
     }
 
     /// Waits until a socket is ready, or time has come for something else. Where connections may

@@ -2,6 +2,7 @@
 
 use bg_journal::{Change, Error, ErrorCode, FileText, Journal, Newest, newest_of};
 use std::alloc::Global;
+use std::test::Fail;
 use std::{fs, io};
 
 /// The change by which a file has a text.
@@ -17,103 +18,79 @@ fn remove(alloc: Global, folder: &str) -> io::Result<Change> {
     Ok(Change::Remove(String::from_str(alloc, folder)?))
 }
 
-fn opened(rt: &HostRuntime, path: &str) -> io::Result<Journal> {
-    match Journal::open(rt, path) {
-        Ok(journal) => Ok(journal),
-        Err(_) => Err(io::Error::from(io::ErrorKind::Other)),
-    }
-}
-
-/// A journal in a new file.
-fn fresh(rt: &HostRuntime, path: &str) -> io::Result<Journal> {
-    let _ = fs::remove_file(rt, path);
+/// Removes a journal, if there is one.
+fn remove_files(rt: &HostRuntime, path: &str) -> io::Result<()> {
     let log = format!(in rt.alloc(); "{path}-wal")?;
+    let _ = fs::remove_file(rt, path);
     let _ = fs::remove_file(rt, log.as_str());
-    opened(rt, path)
+    Ok(())
 }
 
-/// The files of a journal, as `NAME=TEXT;NAME=TEXT;`.
-fn shown(alloc: Global, journal: &mut Journal) -> io::Result<String> {
-    let mut out = String::new(alloc);
-    let Ok(files) = journal.files() else {
-        return Err(io::Error::from(io::ErrorKind::Other));
-    };
-    for file in files.iter() {
+/// Opens a journal, writes changes, and returns its files, as `NAME=TEXT;NAME=TEXT;`.
+fn files_after(rt: &HostRuntime, path: &str, changes: &[Change]) -> Result<String, Error> {
+    let mut journal = Journal::open(rt, path)?;
+    journal.write(changes)?;
+    let mut out = String::new(rt.alloc());
+    for file in journal.files()?.iter() {
         out.push_str(file.name.as_str())?;
-        out.push_str("=")?;
+        out.push('=')?;
         out.push_str(str::from_utf8(&file.text).unwrap_or("?"))?;
-        out.push_str(";")?;
+        out.push(';')?;
     }
     Ok(out)
 }
 
 #[test]
-fn a_journal_has_the_newest_texts_also_when_opened_anew(rt: HostRuntime) -> io::Result<()> {
+fn a_journal_has_the_newest_texts_also_when_opened_anew(rt: HostRuntime) -> Result<(), Fail> {
     let alloc = rt.alloc();
-    let mut journal = fresh(&rt, "newest.db")?;
-    let first = [put(alloc, "b/1", "one")?, put(alloc, "a/1", "two")?];
-    assert!(rt; journal.write(&first) == Ok(()), "the first write");
-    let second = [put(alloc, "b/1", "three")?];
-    assert!(rt; journal.write(&second) == Ok(()), "the second write");
+    remove_files(&rt, "newest.db")?;
+    let changes = [put(alloc, "b/1", "one")?, put(alloc, "a/1", "two")?];
+    let files = files_after(&rt, "newest.db", &changes)?;
+    assert!(rt; files.as_str() == "a/1=two;b/1=one;", "as it was written");
+    let changes = [put(alloc, "b/1", "three")?];
+    let files = files_after(&rt, "newest.db", &changes)?;
     assert!(rt;
-        shown(alloc, &mut journal)?.as_str() == "a/1=two;b/1=three;",
-        "as it was written"
-    );
-    drop(journal);
-    let mut journal = opened(&rt, "newest.db")?;
-    assert!(rt;
-        shown(alloc, &mut journal)?.as_str() == "a/1=two;b/1=three;",
-        "opened anew"
-    );
-    let found = journal
-        .find("b/1")
-        .ok()
-        .flatten()
-        .unwrap_or(Vec::new(alloc));
-    assert!(rt;
-        found.as_slice() == b"three".as_slice(),
-        "found by its name"
-    );
-    assert!(rt;
-        matches!(journal.find("b"), Ok(None)),
-        "no file has this name"
+        files.as_str() == "a/1=two;b/1=three;",
+        "with the newer text"
     );
     Ok(())
 }
 
 #[test]
-fn the_files_of_one_folder_are_removed(rt: HostRuntime) -> io::Result<()> {
+fn the_files_of_one_folder_are_removed(rt: HostRuntime) -> Result<(), Fail> {
     let alloc = rt.alloc();
-    let mut journal = fresh(&rt, "removed.db")?;
-    let files = [
+    remove_files(&rt, "removed.db")?;
+    let changes = [
         put(alloc, "a/1", "gone")?,
-        put(alloc, "a/2", "gone")?,
         put(alloc, "a0/1", "stays")?,
         put(alloc, "aa/1", "stays")?,
         put(alloc, "a", "stays")?,
+        remove(alloc, "a")?,
+        put(alloc, "a/2", "new")?,
     ];
-    assert!(rt; journal.write(&files) == Ok(()), "five files");
-    let changes = [remove(alloc, "a")?, put(alloc, "a/2", "new")?];
+    let files = files_after(&rt, "removed.db", &changes)?;
     assert!(rt;
-        journal.write(&changes) == Ok(()),
-        "a folder is removed, and has a file again"
-    );
-    let all = shown(alloc, &mut journal)?;
-    assert!(rt;
-        all.as_str() == "a=stays;a/2=new;a0/1=stays;aa/1=stays;",
+        files.as_str() == "a=stays;a/2=new;a0/1=stays;aa/1=stays;",
         "the others stay"
     );
-    assert!(rt; journal.clear() == Ok(()), "it is cleared");
-    assert!(rt; shown(alloc, &mut journal)?.is_empty(), "nothing is left");
     Ok(())
 }
 
 #[test]
-fn one_process_has_a_journal(rt: HostRuntime) -> io::Result<()> {
-    let _journal = fresh(&rt, "busy.db")?;
-    let second = Journal::open(&rt, "busy.db").err();
+fn one_process_has_a_journal_until_it_is_cleared(rt: HostRuntime) -> Result<(), Fail> {
+    let alloc = rt.alloc();
+    remove_files(&rt, "busy.db")?;
+    let mut journal = Journal::open(&rt, "busy.db")?;
+    journal.write(&[put(alloc, "a/1", "one")?])?;
+    let second = files_after(&rt, "busy.db", &[]).err();
     let busy = Error::SqliteFailure(ErrorCode::DatabaseBusy);
     assert!(rt; second == Some(busy), "a second one is refused");
+    journal.clear()?;
+    drop(journal);
+    assert!(rt;
+        files_after(&rt, "busy.db", &[])?.is_empty(),
+        "nothing is left"
+    );
     Ok(())
 }
 
