@@ -1,14 +1,14 @@
 //! The database of a server: what all matches save in a turn is made durable there by one sync, and
-//! only then is anybody told. The files of the matches are written behind that, without syncs of
-//! their own; they are brought up to date from the database when it is given up, or at the next
-//! start (docs/SERVING.md, "A database").
+//! only then is anybody told. The files of the matches follow once a second, without syncs of their
+//! own; they are brought up to date from the database when it is given up, or at the next start
+//! (docs/SERVING.md, "A database").
 
 use crate::folders::FolderStore;
 use crate::save_counts::{SaveCounts, micros_since};
 use crate::settling::{NOT_THERE, Owner, Unusable, adopt, begin};
 use crate::turn_saves::TurnSaves;
 use bg_console::path_in;
-use bg_journal::{Change, Error, FileText, Journal, is_below};
+use bg_journal::{Change, Error, FileText, Journal};
 use mio::{Events, Poll};
 use std::fs::OpenOptions;
 use std::io;
@@ -35,6 +35,8 @@ pub(crate) struct Database<'a> {
     journal: Option<Journal>,
     saves: Rc<TurnSaves>,
     counts: Rc<SaveCounts>,
+    /// The second in which the files have followed last.
+    followed: u64,
 }
 
 impl<'a> Database<'a> {
@@ -59,13 +61,14 @@ impl<'a> Database<'a> {
             journal: None,
             saves,
             counts,
+            followed: 0,
         };
         database.open()?;
         Ok(database)
     }
 
-    /// Makes durable what was saved in the turn, and writes the files then. Until this succeeds,
-    /// nothing may be told that rests on what was saved.
+    /// Makes durable what was saved in the turn. Until this succeeds, nothing may be told that rests
+    /// on what was saved.
     ///
     /// # Errors
     /// Why it could not be made durable. Nothing is lost: the next call tries it again.
@@ -86,11 +89,25 @@ impl<'a> Database<'a> {
         self.counts
             .note_commit(result.is_ok(), micros_since(self.rt, begun));
         result?;
-        self.catch_up(&mut behind);
         for change in fresh.drain(..) {
-            self.follow(&mut behind, change);
+            behind.note(change);
         }
         Ok(())
+    }
+
+    /// Writes the files that are older than the database, once a second: a file that is saved more
+    /// often is written once. They aren't synced. What can't be written is tried a second later.
+    pub(crate) fn follow(&mut self, now: u64) {
+        if now == self.followed {
+            return;
+        }
+        self.followed = now;
+        let (rt, folder) = (self.rt, self.folder);
+        if let Ok(mut behind) = self.saves.behind.try_borrow_mut() {
+            behind
+                .files
+                .retain(|file| write_file(rt, folder, file).is_err());
+        }
     }
 
     /// Waits a while, where a commit has failed.
@@ -123,39 +140,16 @@ impl<'a> Database<'a> {
         }
         Ok(())
     }
+}
 
-    /// Lets the files follow a change that is durable. Keeps what could not be written, for which
-    /// there is room.
-    fn follow(&self, behind: &mut Vec<FileText>, change: Change) {
-        match change {
-            Change::Put(file) => {
-                behind.retain(|older| older.name.as_str() != file.name.as_str());
-                if self.write_file(&file).is_err() {
-                    let _ = behind.push(file);
-                }
-            }
-            Change::Remove(folder) => {
-                behind.retain(|older| !is_below(older.name.as_str(), folder.as_str()));
-            }
-        }
-    }
-
-    /// Writes the files again that could not be written.
-    fn catch_up(&self, behind: &mut Vec<FileText>) {
-        if !behind.is_empty() {
-            behind.retain(|file| self.write_file(file).is_err());
-        }
-    }
-
-    /// Writes a file. It isn't synced: the database has it.
-    fn write_file(&self, file: &FileText) -> io::Result<()> {
-        let path = path_in(self.rt.alloc(), self.folder, file.name.as_str())?;
-        let mut out = OpenOptions::new()
-            .write(true)
-            .create(true)
-            .truncate(true)
-            .mode(OWNER_ALONE)
-            .open(self.rt, path.as_str())?;
-        out.write_all(&file.text)
-    }
+/// Writes a file below a folder, without a sync.
+fn write_file(rt: &HostRuntime, folder: &str, file: &FileText) -> io::Result<()> {
+    let path = path_in(rt.alloc(), folder, file.name.as_str())?;
+    let mut out = OpenOptions::new()
+        .write(true)
+        .create(true)
+        .truncate(true)
+        .mode(OWNER_ALONE)
+        .open(rt, path.as_str())?;
+    out.write_all(&file.text)
 }

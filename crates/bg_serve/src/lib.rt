@@ -11,6 +11,7 @@
 #![tactic(auto)]
 
 mod backups;
+mod behind;
 mod changes;
 mod clients;
 mod crowds;

@@ -80,7 +80,8 @@ fn begun<'a>(
     Ok((Server::begin_over(rt, sockets, store)?, database))
 }
 
-/// Lets a server take its turns. What was saved in one is committed before anybody is told of it.
+/// Lets a server take its turns. What was saved in one is committed before anybody is told of it;
+/// and that the operator has deleted or restored a match, before files are written that are behind.
 fn go_on(
     rt: &HostRuntime,
     server: &mut Server<'_>,
@@ -94,6 +95,10 @@ fn go_on(
             commit(rt, database, options.database.unwrap_or_default())?;
         }
         let made = waited(rt, server.tell(now))?;
+        if let Some(database) = database {
+            commit(rt, database, options.database.unwrap_or_default())?;
+            database.follow(now);
+        }
         tell_counts(rt, made, server.ended(), server.changed());
         tell_requests(rt, server);
         say_failures(rt, failures, options.folder);

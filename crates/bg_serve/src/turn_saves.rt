@@ -1,5 +1,6 @@
 //! The saves of a turn of the server, which are made durable together.
 
+use crate::behind::Behind;
 use bg_console::slot_path;
 use bg_journal::{Change, FileText, Newest, newest_of};
 use bg_wire::Slot;
@@ -13,7 +14,7 @@ use std::rc::Rc;
 #[derive(Drop)]
 pub(crate) struct TurnSaves {
     pub(crate) fresh: RefCell<Vec<Change>>,
-    pub(crate) behind: RefCell<Vec<FileText>>,
+    pub(crate) behind: RefCell<Behind>,
 }
 
 impl TurnSaves {
@@ -21,7 +22,7 @@ impl TurnSaves {
     pub(crate) fn new(alloc: Global) -> TurnSaves {
         TurnSaves {
             fresh: RefCell::new(Vec::new(alloc)),
-            behind: RefCell::new(Vec::new(alloc)),
+            behind: RefCell::new(Behind::new(alloc)),
         }
     }
 
@@ -50,12 +51,10 @@ impl TurnSaves {
             Newest::Gone => return Ok(None),
             Newest::Unchanged => {}
         }
-        for file in behind.iter() {
-            if file.name.as_str() == name {
-                return Ok(Some(file.text.as_slice().to_vec(alloc)?));
-            }
+        match behind.text_of(name) {
+            Some(text) => Ok(Some(text.to_vec(alloc)?)),
+            None => Ok(None),
         }
-        Ok(None)
     }
 }
 

@@ -1,0 +1,62 @@
+//! Files whose newest texts are durable in the database, while they themselves may be older.
+ghost use Rattle.std.specs.Prelude.{◌≤◌, length};
+
+use bg_journal::{Change, FileText, is_below};
+use std::alloc::{AllocError, Global};
+
+/// The newest text of each such file.
+#[derive(Drop)]
+pub(crate) struct Behind {
+    /// By their names, each once.
+    pub(crate) files: Vec<FileText>,
+}
+
+impl Behind {
+    /// Says of no file that it is behind.
+    pub(crate) fn new(alloc: Global) -> Behind {
+        Behind {
+            files: Vec::new(alloc),
+        }
+    }
+
+    /// Makes room for so many files more.
+    pub(crate) fn reserve(&mut self, files: usize) -> Result<(), AllocError> {
+        self.files.reserve(files)
+    }
+
+    /// Returns where a file is, or would be.
+    fn place_of(&self, name: &str) -> usize
+        ensures { result ≤ length self.now.files.items }
+    {
+        self.files.partition_point(|file| file.name.as_str() < name)
+    }
+
+    /// Returns the newest text of a file that is behind.
+    pub(crate) fn text_of(&self, name: &str) -> Option<&[u8]> {
+        match self.files.get(self.place_of(name)) {
+            Some(file) if file.name.as_str() == name => Some(&file.text),
+            _ => None,
+        }
+    }
+
+    /// Notes a change that is durable, for which there is room.
+    pub(crate) fn note(&mut self, change: Change) {
+        match change {
+            Change::Put(file) => self.put(file),
+            Change::Remove(folder) => self
+                .files
+                .retain(|file| !is_below(file.name.as_str(), folder.as_str())),
+        }
+    }
+
+    /// Notes the newest text of a file.
+    fn put(&mut self, file: FileText) {
+        let place = self.place_of(file.name.as_str());
+        match self.files.get_mut(place) {
+            Some(older) if older.name.as_str() == file.name.as_str() => older.text = file.text,
+            _ => {
+                let _ = self.files.insert(place, file);
+            }
+        }
+    }
+}
