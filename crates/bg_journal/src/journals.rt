@@ -1,6 +1,7 @@
 //! The journal.
 
 use crate::changes::{Change, FileText};
+use sqlite::types::ValueRef;
 use sqlite::{Connection, Error, File, FileStore, Row, params};
 use std::alloc::Global;
 
@@ -34,12 +35,13 @@ impl Journal {
     /// # Errors
     /// Why it could not be opened: `DatabaseBusy` where another process has it.
     pub fn open(rt: &HostRuntime, path: &str) -> Result<Journal, Error> {
-        let mut connection = Connection::open(rt, path)?;
-        connection.execute_batch(TABLE)?;
-        Ok(Journal {
+        let connection = Connection::open(rt, path)?;
+        let mut journal = Journal {
             alloc: rt.alloc(),
             connection,
-        })
+        };
+        journal.run(TABLE, &[])?;
+        Ok(journal)
     }
 
     /// Makes changes durable, all of them or none, in their order. After an error the journal has
@@ -48,37 +50,14 @@ impl Journal {
     /// # Errors
     /// Why they could not be made durable.
     pub fn write(&mut self, changes: &[Change]) -> Result<(), Error> {
-        self.run("BEGIN")?;
+        self.run("BEGIN", &[])?;
         for change in changes.iter() {
-            self.make(change)?;
+            match change {
+                Change::Put(file) => self.run(PUT, params![file.name.as_str(), &file.text])?,
+                Change::Remove(folder) => self.run(REMOVE, params![folder.as_str()])?,
+            }
         }
-        self.run("COMMIT")
-    }
-
-    /// Makes a change.
-    fn make(&mut self, change: &Change) -> Result<(), Error> {
-        match change {
-            Change::Put(file) => self.put(file.name.as_str(), &file.text),
-            Change::Remove(folder) => self.remove(folder.as_str()),
-        }
-    }
-
-    /// Puts the text of a file in the place of an older one.
-    fn put(&mut self, name: &str, text: &[u8]) -> Result<(), Error> {
-        let _ = self.connection.execute(PUT, params![name, text])?;
-        Ok(())
-    }
-
-    /// Removes the files of a folder.
-    fn remove(&mut self, folder: &str) -> Result<(), Error> {
-        let _ = self.connection.execute(REMOVE, params![folder])?;
-        Ok(())
-    }
-
-    /// Runs a text without parameters.
-    fn run(&mut self, text: &str) -> Result<(), Error> {
-        let _ = self.connection.execute(text, &[])?;
-        Ok(())
+        self.run("COMMIT", &[])
     }
 
     /// Returns the text of a file, if the journal has one.
@@ -86,10 +65,9 @@ impl Journal {
     /// # Errors
     /// Why it could not be read.
     pub fn find(&mut self, name: &str) -> Result<Option<Vec<u8>>, Error> {
-        match self.connection.query_row(FIND, params![name]) {
-            Ok(row) => Ok(Some(row.get(0)?)),
-            Err(Error::QueryReturnedNoRows) => Ok(None),
-            Err(error) => Err(error),
+        match self.rows(FIND, params![name])?.first() {
+            Some(row) => Ok(Some(row.get(0)?)),
+            None => Ok(None),
         }
     }
 
@@ -98,9 +76,8 @@ impl Journal {
     /// # Errors
     /// Why they could not be read.
     pub fn files(&mut self) -> Result<Vec<FileText>, Error> {
-        let rows = self.connection.query_all(READ, &[])?;
         let mut files = Vec::new(self.alloc);
-        for row in rows.iter() {
+        for row in self.rows(READ, &[])?.iter() {
             files.push(file_of(row)?)?;
         }
         Ok(files)
@@ -111,7 +88,18 @@ impl Journal {
     /// # Errors
     /// Why they could not be removed.
     pub fn clear(&mut self) -> Result<(), Error> {
-        self.run(CLEAR)
+        self.run(CLEAR, &[])
+    }
+
+    /// Runs a text with these parameters, which answers no rows.
+    fn run(&mut self, text: &str, values: &[ValueRef<'_>]) -> Result<(), Error> {
+        let _ = self.connection.execute(text, values)?;
+        Ok(())
+    }
+
+    /// Returns the rows that a text with these parameters answers.
+    fn rows(&mut self, text: &str, values: &[ValueRef<'_>]) -> Result<Vec<Row>, Error> {
+        self.connection.query_all(text, values)
     }
 }
 
