@@ -11,11 +11,11 @@ use crate::turn_saves::{TurnSaves, TurnSlots};
 use bg_console::path_in;
 use bg_dice::{digest_of, read_digest};
 use bg_match::{Record, Terms};
-use bg_processes::{Failures, FolderLock, MatchFile, NamedMatch, Names, read_saved, read_secret};
+use bg_processes::{Failures, FolderLock, NamedMatch, Names, read_secret};
 use bg_site::{Changed, Found, Made, Saves, Seats, Store};
-use bg_wire::{REFEREE, SEAT_OF_O, SEAT_OF_X, restore};
+use bg_wire::{REFEREE, SEAT_OF_O, SEAT_OF_X};
 use bg_world::Keepers;
-use std::alloc::{AllocError, Global};
+use std::alloc::AllocError;
 use std::io::ErrorKind;
 use std::rc::Rc;
 use std::{fs, io};
@@ -28,7 +28,7 @@ pub struct FolderStore<'a> {
     failures: &'a Failures,
     counts: Rc<SaveCounts>,
     /// Where the saves of a turn are gathered, if there is a database.
-    turn: Option<Rc<TurnSaves>>,
+    pub(crate) turn: Option<Rc<TurnSaves>>,
 }
 
 impl<'a> FolderStore<'a> {
@@ -202,44 +202,6 @@ impl<'a> FolderStore<'a> {
         let counts = self.counts.clone()?;
         let files = ServedFiles::new(self.rt, path, party, self.failures, slots, counts)?;
         Ok(ServedKeeper::over(files))
-    }
-
-    /// Reads the record that a match's referee has saved.
-    fn try_load(&self, name: &str) -> io::Result<Option<Record>> {
-        let path = path_in(self.rt.alloc(), self.folder, name)?;
-        let Some(file) = self.table_in(path.as_str())? else {
-            return Ok(None);
-        };
-        let zero = self.saved_in(name, "party-0.0")?;
-        let one = self.saved_in(name, "party-0.1")?;
-        Ok(record_in(self.rt.alloc(), &zero, &one, file))
-    }
-
-    /// Reads the match file of a folder, if it has one, without the names.
-    fn table_in(&self, path: &str) -> io::Result<Option<MatchFile>> {
-        let path = path_in(self.rt.alloc(), path, "match")?;
-        MatchFile::read(self.rt, path.as_str())
-    }
-
-    /// Reads a slot of a match.
-    fn saved_in(&self, name: &str, slot: &str) -> io::Result<Vec<u8>> {
-        let file = path_in(self.rt.alloc(), name, slot)?;
-        if let Some(turn) = &self.turn {
-            if let Ok(Some(text)) = turn.newest(self.rt.alloc(), file.as_str()) {
-                return Ok(text);
-            }
-        }
-        let path = path_in(self.rt.alloc(), self.folder, file.as_str())?;
-        read_saved(self.rt, path.as_str())
-    }
-}
-
-/// Returns the record that a referee's two slots have, if they have one of this match.
-fn record_in(alloc: Global, zero: &[u8], one: &[u8], file: MatchFile) -> Option<Record> {
-    let (id, length, rules) = (file.id, file.terms.length, file.terms.rules);
-    match restore(alloc, zero, one, REFEREE, id, length, rules) {
-        Ok(Some(saved)) => Some(saved.log),
-        _ => None,
     }
 }
 

@@ -26,6 +26,7 @@ pub mod manage;
 mod marks;
 mod quotas;
 mod save_counts;
+mod saved_records;
 mod seat_files;
 pub mod serve;
 mod served_files;

@@ -1,6 +1,6 @@
 //! Journals of files, over files of their own in the folder of the test.
 
-use bg_journal::{Change, Error, ErrorCode, FileText, Journal, Newest, newest_of};
+use bg_journal::{Change, Error, FileText, Journal, Newest, newest_of};
 use std::alloc::Global;
 use std::test::Fail;
 use std::{fs, io};
@@ -72,24 +72,6 @@ fn the_files_of_one_folder_are_removed(rt: HostRuntime) -> Result<(), Fail> {
     assert!(rt;
         files.as_str() == "a=stays;a/2=new;a0/1=stays;aa/1=stays;",
         "the others stay"
-    );
-    Ok(())
-}
-
-#[test]
-fn one_process_has_a_journal_until_it_is_cleared(rt: HostRuntime) -> Result<(), Fail> {
-    let alloc = rt.alloc();
-    remove_files(&rt, "busy.db")?;
-    let mut journal = Journal::open(&rt, "busy.db")?;
-    journal.write(&[put(alloc, "a/1", "one")?])?;
-    let second = files_after(&rt, "busy.db", &[]).err();
-    let busy = Error::SqliteFailure(ErrorCode::DatabaseBusy);
-    assert!(rt; second == Some(busy), "a second one is refused");
-    journal.clear()?;
-    drop(journal);
-    assert!(rt;
-        files_after(&rt, "busy.db", &[])?.is_empty(),
-        "nothing is left"
     );
     Ok(())
 }
