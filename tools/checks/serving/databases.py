@@ -4,8 +4,10 @@ import os
 import shutil
 import subprocess
 import tempfile
+import time
 
 from counting import right
+from parties import MOST_SECONDS
 from program import PROGRAM
 from served import Served
 from serving.asking import bearer, begin_players, lines_of, state_of, wait_for
@@ -65,9 +67,22 @@ def play_over_kills(server):
     right(sum(player.conflicts for player in players) == 0, "with a database an entry was told otherwise later, or not any more")
     for name, both in seated.items():
         compare_told(server, name, both)
+    for name in seated:
+        compare_folder(server, name)
     modes = [os.stat(server.store + end).st_mode & 0o777 for end in ("", "-wal")]
     right(modes == [0o600, 0o600], f"a database is open to others: {[oct(mode) for mode in modes]}")
     return seated
+
+
+def compare_folder(server, name):
+    """The folder of a match that nobody plays any more has all of it, within some seconds."""
+    files = [os.path.join(server.folder, name, f"party-0.{slot}") for slot in "01"]
+    until, lines, shown = time.monotonic() + MOST_SECONDS, lines_of(server, name), None
+    while shown != lines and time.monotonic() < until:
+        time.sleep(0.1)
+        done = subprocess.run([PROGRAM, "show", "--transcript", *files], capture_output=True, check=False, text=True)
+        shown = done.stdout.splitlines()
+    right(shown == lines, f"the folder of {name} has {len(shown)} lines, and not {len(lines)}")
 
 
 def act_and_restore(server):

@@ -1,0 +1,49 @@
+//! The records that the folders of matches have.
+
+use crate::folders::FolderStore;
+use bg_console::path_in;
+use bg_match::Record;
+use bg_processes::{MatchFile, read_saved};
+use bg_wire::{REFEREE, restore};
+use std::alloc::Global;
+use std::io;
+
+impl<'a> FolderStore<'a> {
+    /// Reads the record that a match's referee has saved.
+    pub(crate) fn try_load(&self, name: &str) -> io::Result<Option<Record>> {
+        let path = path_in(self.rt.alloc(), self.folder, name)?;
+        let Some(file) = self.table_in(path.as_str())? else {
+            return Ok(None);
+        };
+        let zero = self.saved_in(name, "party-0.0")?;
+        let one = self.saved_in(name, "party-0.1")?;
+        Ok(record_in(self.rt.alloc(), &zero, &one, file))
+    }
+
+    /// Reads the match file of a folder, if it has one, without the names.
+    fn table_in(&self, path: &str) -> io::Result<Option<MatchFile>> {
+        let path = path_in(self.rt.alloc(), path, "match")?;
+        MatchFile::read(self.rt, path.as_str())
+    }
+
+    /// Reads a slot of a match.
+    fn saved_in(&self, name: &str, slot: &str) -> io::Result<Vec<u8>> {
+        let file = path_in(self.rt.alloc(), name, slot)?;
+        if let Some(turn) = &self.turn {
+            if let Ok(Some(text)) = turn.newest(self.rt.alloc(), file.as_str()) {
+                return Ok(text);
+            }
+        }
+        let path = path_in(self.rt.alloc(), self.folder, file.as_str())?;
+        read_saved(self.rt, path.as_str())
+    }
+}
+
+/// Returns the record that a referee's two slots have, if they have one of this match.
+fn record_in(alloc: Global, zero: &[u8], one: &[u8], file: MatchFile) -> Option<Record> {
+    let (id, length, rules) = (file.id, file.terms.length, file.terms.rules);
+    match restore(alloc, zero, one, REFEREE, id, length, rules) {
+        Ok(Some(saved)) => Some(saved.log),
+        _ => None,
+    }
+}
