@@ -10,6 +10,7 @@ use Rattle.bg_match.specs.declared.entries.Entry.{Entry}
 use Rattle.bg_party.specs.Claims.{WatcherTicks}
 use Rattle.bg_party.specs.Views.{SeatView, WatcherView, fresh_watcher}
 use Rattle.bg_wire.specs.Entries.Codes.{first_watcher}
+use Rattle.bg_wire.specs.Saved.Restoring.{SlotsRestore}
 use Rattle.bg_wire.specs.Saved.SlotLaws.{Slots}
 use Rattle.bg_wire.specs.declared.packets.Datagram.{Datagram}
 use Rattle.bg_world.specs.Devices.LinkCalls.{FollowerTakeCalls, FollowerTickCalls}
@@ -32,14 +33,16 @@ use Rattle.bg_fences.specs.FencedPromises.{FencedHeadline, HoldsOfNewest}
 use Rattle.bg_fences.specs.ProcessRuns.{no_process}
 use Rattle.bg_fences.specs.SharedNodes.{SharedNodes, cores_of, slots_of, with_seat_nodes, all_parties, held_by, process_of_referee, process_of_seat, process_of_watcher, processes_of}
 use Rattle.bg_fences.specs.NodeActs.{NodeActs, NodesRun, IsReachedByNodes, NodeTakes, NodeSaves, NodeTicks, NodeRestarts, no_node_begun}
-use Rattle.bg_fences.proofs.Invariant.{FencedInv}
-use Rattle.bg_fences.proofs.AllCalls.{begins_watcher, ticks_watcher, watched, starts, headline}
-use Rattle.bg_fences.proofs.Lists.{was_in, each_becomes, of_one, none_in, cases_in}
+use Rattle.bg_fences.proofs.Invariant.{Earlier, FencedInv}
+use Rattle.bg_fences.proofs.AllCalls.{begins_watcher, earlier_in, headline, starts, ticks_watcher, watched}
+use Rattle.bg_fences.proofs.Lists.{was_in, each_becomes, of_one, none_in, cases_in, head_in}
 use Rattle.bg_fences.proofs.Newest.{holds_of_newest}
+use Rattle.bg_fences.proofs.NodeMoments.{MomentsOk, earlier_nodes, first_moment, one_moment, remembers_moment, remembers_slots, slots_keep}
 use Rattle.bg_fences.proofs.NodeCalls.{NodesInv, law_of, seat_knows, watcher_knows}
 use Rattle.bg_fences.proofs.NodeCalls as of_referee
 use Rattle.bg_fences.proofs.SeatNodeCalls as of_seat
 use Rattle.bg_fences.proofs.SeatNodes.{IsSeatCoreOf, IsWatcherCoreOf, watcher_ticks}
+use Rattle.bg_fences.proofs.SlotReads.{read_was_restored}
 
 -- ---- a watcher's node
 
@@ -54,9 +57,9 @@ map_becomes {C} {P} f olds c d news h = (
 abbrev Knows : SharedNodes → List Datagram → WatcherView → Type 0
 Knows m sent f = (index : ℕ) × IsWatcherCoreOf m.id m.terms sent index f
 
-finish : (m : SharedNodes) (inv : NodesInv m) (c d : WatcherView) (cores : List WatcherView) (sent out : List Datagram) → Becomes m.watching c (d ∷ []) cores → Knows m m.sent d → sent ≡ m.sent ++ out
-    → FencedInv (record (law_of m inv) { watching = map process_of_watcher cores; sent = sent }) → NodesInv (record m { watching = cores; sent = sent })
-finish m inv c d cores sent out b new e after = record {
+finish : {earlier : Earlier} (m : SharedNodes) (inv : NodesInv earlier m) (c d : WatcherView) (cores : List WatcherView) (sent out : List Datagram) → Becomes m.watching c (d ∷ []) cores → Knows m m.sent d → sent ≡ m.sent ++ out
+    → FencedInv earlier (record (law_of m inv) { watching = map process_of_watcher cores; sent = sent }) → NodesInv earlier (record m { watching = cores; sent = sent })
+finish {earlier} m inv c d cores sent out b new e after = record {
   restorable = inv.restorable;
   inv = after;
   referees = inv.referees;
@@ -68,15 +71,15 @@ finish m inv c d cores sent out b new e after = record {
     seats X s k = seat_knows m.id m.terms m.sent sent out X s e (inv.seats X s k)
     seats O s k = seat_knows m.id m.terms m.sent sent out O s e (inv.seats O s k)
 
-the_watcher : (m : SharedNodes) (inv : NodesInv m) (index : ℕ) (c d : WatcherView) (cores : List WatcherView) → Becomes m.watching c (d ∷ []) cores → c.party ≡ first_watcher + index → IsWatcherCoreOf m.id m.terms m.sent index c
-the_watcher m inv index c d cores b is =
+the_watcher : {earlier : Earlier} (m : SharedNodes) (inv : NodesInv earlier m) (index : ℕ) (c d : WatcherView) (cores : List WatcherView) → Becomes m.watching c (d ∷ []) cores → c.party ≡ first_watcher + index → IsWatcherCoreOf m.id m.terms m.sent index c
+the_watcher {earlier} m inv index c d cores b is =
     let w = inv.watching c (was_in m.watching c (d ∷ []) cores b) in
     let same : w.0 ≡ index = omega (w.1.party, is, arith) in
     subst (λ (i : ℕ). IsWatcherCoreOf m.id m.terms m.sent i c) same w.1
 
-take_acts : (m : SharedNodes) (inv : NodesInv m) (index pick : ℕ) (o : Outcome) (c d : WatcherView) (old new : LinkView) (cores : List WatcherView) → c.party ≡ first_watcher + index → old.sent ≡ m.sent
-    → FollowerTakeCalls WatcherTakes ⊤ (first_watcher + index) old c pick o new d → Becomes m.watching c (d ∷ []) cores → NodesInv (record m { watching = cores; sent = new.sent })
-take_acts m inv index pick o c d old new cores is e h b =
+take_acts : {earlier : Earlier} (m : SharedNodes) (inv : NodesInv earlier m) (index pick : ℕ) (o : Outcome) (c d : WatcherView) (old new : LinkView) (cores : List WatcherView) → c.party ≡ first_watcher + index → old.sent ≡ m.sent
+    → FollowerTakeCalls WatcherTakes ⊤ (first_watcher + index) old c pick o new d → Becomes m.watching c (d ∷ []) cores → NodesInv earlier (record m { watching = cores; sent = new.sent })
+take_acts {earlier} m inv index pick o c d old new cores is e h b =
     let S = law_of m inv in
     let p = process_of_watcher c in
     let fits = the_watcher m inv index c d cores b is in
@@ -91,13 +94,13 @@ take_acts m inv index pick o c d old new cores is e h b =
     let was = (inv.inv).watching p (was_in S.watching p (record p { log = d.follower.log.entries } ∷ []) (map process_of_watcher cores) goes) in
     let sent : new.sent ≡ m.sent = t.2 ∙ e in
     finish m inv c d cores new.sent [] b (index, mine) (sent ∙ sym (append-nil m.sent))
-    (subst (λ (l : List Datagram). FencedInv (record S { watching = map process_of_watcher cores; sent = l })) (sym sent)
+    (subst (λ (l : List Datagram). FencedInv earlier (record S { watching = map process_of_watcher cores; sent = l })) (sym sent)
     (watched S p d.follower.log.entries (record S { watching = map process_of_watcher cores }) inv.inv (map process_of_watcher cores, goes, refl)
     (take_at_follower (at_rest S) (first_watcher + index) o p.log d.follower.log.entries (inv.inv).base was.1 row)))
 
-tick_acts : (m : SharedNodes) (inv : NodesInv m) (index : ℕ) (o : Outcome) (c d : WatcherView) (old new : LinkView) (cores : List WatcherView) → c.party ≡ first_watcher + index → old.sent ≡ m.sent
-    → FollowerTickCalls WatcherTicks ⊤ (all_parties m) old c o new d → Becomes m.watching c (d ∷ []) cores → NodesInv (record m { watching = cores; sent = new.sent })
-tick_acts m inv index o c d old new cores is e h b =
+tick_acts : {earlier : Earlier} (m : SharedNodes) (inv : NodesInv earlier m) (index : ℕ) (o : Outcome) (c d : WatcherView) (old new : LinkView) (cores : List WatcherView) → c.party ≡ first_watcher + index → old.sent ≡ m.sent
+    → FollowerTickCalls WatcherTicks ⊤ (all_parties m) old c o new d → Becomes m.watching c (d ∷ []) cores → NodesInv earlier (record m { watching = cores; sent = new.sent })
+tick_acts {earlier} m inv index o c d old new cores is e h b =
     let S = law_of m inv in
     let p = process_of_watcher c in
     let v : ProtocolState = record (at_rest S) { sent = new.sent } in
@@ -111,10 +114,10 @@ tick_acts m inv index o c d old new cores is e h b =
     finish m inv c d cores new.sent grown.0 b (index, t.1) grown.1
     (ticks_watcher S p index o v (record S { watching = map process_of_watcher cores; sent = new.sent }) inv.inv number t.0 (map process_of_watcher cores, goes, refl))
 
-begin_acts : (m : SharedNodes) (inv : NodesInv m) (index : ℕ) → index < m.watchers → NodesInv (record m { watching = fresh_watcher (first_watcher + index) m.id m.terms ∷ m.watching })
-begin_acts m inv index l = record {
+begin_acts : {earlier : Earlier} (m : SharedNodes) (inv : NodesInv earlier m) (index : ℕ) → index < m.watchers → NodesInv earlier (record m { watching = fresh_watcher (first_watcher + index) m.id m.terms ∷ m.watching })
+begin_acts {earlier} m inv index l = record {
   restorable = inv.restorable;
-  inv = subst (λ (i : ℕ). FencedInv (record (law_of m inv) { watching = record { index = i; log = [] } ∷ map process_of_watcher m.watching })) (number index) (begins_watcher (law_of m inv) index inv.inv l);
+  inv = subst (λ (i : ℕ). FencedInv earlier (record (law_of m inv) { watching = record { index = i; log = [] } ∷ map process_of_watcher m.watching })) (number index) (begins_watcher (law_of m inv) index inv.inv l);
   referees = inv.referees;
   seats = seats;
   watching = λ f k. at_place f (cases_in fresh f m.watching k);
@@ -148,33 +151,40 @@ same_after : (m : SharedNodes) (q : Player) (cores : List (Option SeatView)) (sl
 same_after m X cores slots = refl
 same_after m O cores slots = refl
 
-takes : (m : SharedNodes) (r : Role) (pick word : ℕ) (o : Outcome) (n : SharedNodes) → NodesInv m → NodeTakes m r pick word o n → NodesInv n
-takes m roles.Referee pick word o n inv h = subst NodesInv (sym h.8) (of_referee.take_acts m inv pick word o h.0 h.1 h.2 h.3 h.4 h.5 h.6 h.7)
-takes m (roles.Seat q) pick word o n inv h = subst NodesInv (sym h.8) (of_seat.take_acts m inv q pick o h.0 h.1 h.2 h.3 h.4 h.5 h.6 h.7)
-takes m (roles.Watcher index) pick word o n inv h = subst NodesInv (sym h.9) (take_acts m inv index pick o h.0 h.3 h.1 h.2 h.4 h.5 h.6 h.7 h.8)
+takes : {earlier : Earlier} (m : SharedNodes) (r : Role) (pick word : ℕ) (o : Outcome) (n : SharedNodes) → NodesInv earlier m → NodeTakes m r pick word o n → NodesInv earlier n
+takes {earlier} m roles.Referee pick word o n inv h = subst (NodesInv earlier) (sym h.8) (of_referee.take_acts m inv pick word o h.0 h.1 h.2 h.3 h.4 h.5 h.6 h.7)
+takes {earlier} m (roles.Seat q) pick word o n inv h = subst (NodesInv earlier) (sym h.8) (of_seat.take_acts m inv q pick o h.0 h.1 h.2 h.3 h.4 h.5 h.6 h.7)
+takes {earlier} m (roles.Watcher index) pick word o n inv h = subst (NodesInv earlier) (sym h.9) (take_acts m inv index pick o h.0 h.3 h.1 h.2 h.4 h.5 h.6 h.7 h.8)
 
-saves : (m : SharedNodes) (r : Role) (o : Outcome) (n : SharedNodes) → NodesInv m → NodeSaves m r o n → NodesInv n
-saves m roles.Referee o n inv h = subst NodesInv (sym h.8) (of_referee.save_acts m inv o h.0 h.1 h.2 h.3 h.4 h.5 (h.6).0 (h.6).1 h.7)
-saves m (roles.Seat q) o n inv h = subst NodesInv (same_after m q h.4 (h.2).slots ∙ sym h.8) (of_seat.save_acts m inv q o h.0 h.1 h.2 h.3 h.4 h.5 (h.6).0 (h.6).1 h.7)
-saves m (roles.Watcher index) o n inv h = subst NodesInv (sym h) inv
+saves : {earlier : Earlier} (m : SharedNodes) (r : Role) (o : Outcome) (n : SharedNodes) → NodesInv earlier m → NodeSaves m r o n → NodesInv earlier n
+saves {earlier} m roles.Referee o n inv h = subst (NodesInv earlier) (sym h.8) (of_referee.save_acts m inv o h.0 h.1 h.2 h.3 h.4 h.5 (h.6).0 (h.6).1 h.7)
+saves {earlier} m (roles.Seat q) o n inv h = subst (NodesInv earlier) (same_after m q h.4 (h.2).slots ∙ sym h.8) (of_seat.save_acts m inv q o h.0 h.1 h.2 h.3 h.4 h.5 (h.6).0 (h.6).1 h.7)
+saves {earlier} m (roles.Watcher index) o n inv h = subst (NodesInv earlier) (sym h) inv
 
-ticks : (m : SharedNodes) (r : Role) (o : Outcome) (n : SharedNodes) → NodesInv m → NodeTicks m r o n → NodesInv n
-ticks m roles.Referee o n inv h = subst NodesInv (sym h.8) (of_referee.tick_acts m inv o h.0 h.1 h.2 h.3 h.4 h.5 h.6 h.7)
-ticks m (roles.Seat q) o n inv h = subst NodesInv (sym h.8) (of_seat.tick_acts m inv q o h.0 h.1 h.2 h.3 h.4 h.5 h.6 h.7)
-ticks m (roles.Watcher index) o n inv h = subst NodesInv (sym h.9) (tick_acts m inv index o h.0 h.3 h.1 h.2 h.4 h.5 h.6 h.7 h.8)
+ticks : {earlier : Earlier} (m : SharedNodes) (r : Role) (o : Outcome) (n : SharedNodes) → NodesInv earlier m → NodeTicks m r o n → NodesInv earlier n
+ticks {earlier} m roles.Referee o n inv h = subst (NodesInv earlier) (sym h.8) (of_referee.tick_acts m inv o h.0 h.1 h.2 h.3 h.4 h.5 h.6 h.7)
+ticks {earlier} m (roles.Seat q) o n inv h = subst (NodesInv earlier) (sym h.8) (of_seat.tick_acts m inv q o h.0 h.1 h.2 h.3 h.4 h.5 h.6 h.7)
+ticks {earlier} m (roles.Watcher index) o n inv h = subst (NodesInv earlier) (sym h.9) (tick_acts m inv index o h.0 h.3 h.1 h.2 h.4 h.5 h.6 h.7 h.8)
 
-restarts : (m : SharedNodes) (r : Role) (o : Outcome) (n : SharedNodes) → NodesInv m → NodeRestarts m r o n → NodesInv n
-restarts m roles.Referee o n inv h = subst NodesInv (sym h.8) (of_referee.restart_acts m inv o h.0 h.1 h.2 h.3 h.4 h.5 h.6 h.7)
-restarts m (roles.Seat q) o n inv h = subst NodesInv (same_after m q h.4 (h.2).slots ∙ sym h.8) (of_seat.restart_acts m inv q o h.0 h.1 h.2 h.3 h.4 h.5 h.6 h.7)
-restarts m (roles.Watcher index) o n inv h = subst NodesInv (sym h.2) (begin_acts m inv index h.1)
+restarts : (moments : List SharedNodes) (m : SharedNodes) (r : Role) (o : Outcome) (n : SharedNodes) → MomentsOk moments → NodesInv (earlier_nodes moments) m → NodeRestarts moments m r o n
+    → NodesInv (earlier_nodes moments) n
+restarts moments m roles.Referee o n were inv h =
+    subst (NodesInv (earlier_nodes moments)) (sym h.8)
+    (of_referee.restart_acts m inv o h.0 h.1 h.2 h.3 h.4 (λ found k. read_was_restored (λ past. past.referee_slots) moments (h.1).slots found were.referee h.5 k) h.6 h.7)
+restarts moments m (roles.Seat q) o n were inv h =
+    subst (NodesInv (earlier_nodes moments)) (same_after m q h.4 (slots_of m q) ∙ sym h.8)
+    (of_seat.restart_acts m inv q o h.0 h.1 h.2 h.3 h.4 (λ found k. read_was_restored (λ past. slots_of past q) moments (h.1).slots found (were.seats q) h.5 k) h.6 h.7)
+restarts moments m (roles.Watcher index) o n were inv h = subst (NodesInv (earlier_nodes moments)) (sym h.2) (begin_acts m inv index h.1)
 
-pub acts_keep : (m : SharedNodes) (e : Event) (o : Outcome) (n : SharedNodes) → NodesInv m → NodeActs m e o n → NodesInv n
-acts_keep m (events.Due word) o n inv h = subst NodesInv (sym h.5) (of_referee.due_acts m inv word o h.0 h.1 h.2 h.3 h.4)
-acts_keep m (events.Take party pick word) o n inv h = takes m (role party) pick word o n inv h
-acts_keep m (events.Choose q a) o n inv h = subst NodesInv (same_after m q h.2 (slots_of m q) ∙ sym h.5) (of_seat.choose_acts m inv q a o h.0 h.1 h.2 h.3 h.4)
-acts_keep m (events.Save party) o n inv h = saves m (role party) o n inv h
-acts_keep m (events.Tick party) o n inv h = ticks m (role party) o n inv h
-acts_keep m (events.Restart party) o n inv h = restarts m (role party) o n inv h
+pub acts_keep : (moments : List SharedNodes) (m : SharedNodes) (e : Event) (o : Outcome) (n : SharedNodes) → MomentsOk moments → NodesInv (earlier_nodes moments) m → NodeActs moments m e o n
+    → NodesInv (earlier_nodes moments) n
+acts_keep moments m (events.Due word) o n were inv h = subst (NodesInv (earlier_nodes moments)) (sym h.5) (of_referee.due_acts m inv word o h.0 h.1 h.2 h.3 h.4)
+acts_keep moments m (events.Take party pick word) o n were inv h = takes m (role party) pick word o n inv h
+acts_keep moments m (events.Choose q a) o n were inv h =
+    subst (NodesInv (earlier_nodes moments)) (same_after m q h.2 (slots_of m q) ∙ sym h.5) (of_seat.choose_acts m inv q a o h.0 h.1 h.2 h.3 h.4)
+acts_keep moments m (events.Save party) o n were inv h = saves m (role party) o n inv h
+acts_keep moments m (events.Tick party) o n were inv h = ticks m (role party) o n inv h
+acts_keep moments m (events.Restart party) o n were inv h = restarts moments m (role party) o n were inv h
 
 -- ---- runs
 
@@ -193,7 +203,7 @@ nobody {C} (suc n) c k = at_place (λ g. nobody n c g) (cases_in None (Some c) (
     at_place again (inl e) = none_some c e
     at_place again (inr g) = again g
 
-begun : (id : ℕ) (terms : Terms) (watchers a b c : ℕ) → IsSetup id terms watchers → NodesInv (no_node_begun id terms watchers a b c)
+begun : (id : ℕ) (terms : Terms) (watchers a b c : ℕ) → IsSetup id terms watchers → NodesInv (earlier_in []) (no_node_begun id terms watchers a b c)
 begun id terms watchers a b c setup = record {
   restorable = record { referee = None; x = None; o = None };
   inv = with_os;
@@ -202,28 +212,49 @@ begun id terms watchers a b c setup = record {
   watching = λ f k. absurd (none_in f k);
 }
   where
-    with_referees : FencedInv (record (no_process id terms watchers) { referees = held_by process_of_referee (replicate a None) })
-    with_referees = subst (λ (l : List RefereeProcess). FencedInv (record (no_process id terms watchers) { referees = l })) (sym (held_none process_of_referee a)) (starts id terms watchers setup)
+    with_referees : FencedInv (earlier_in []) (record (no_process id terms watchers) { referees = held_by process_of_referee (replicate a None) })
+    with_referees = subst (λ (l : List RefereeProcess). FencedInv (earlier_in []) (record (no_process id terms watchers) { referees = l })) (sym (held_none process_of_referee a)) (starts id terms watchers setup)
 
-    with_xs : FencedInv (record (no_process id terms watchers) { referees = held_by process_of_referee (replicate a None); xs = held_by process_of_seat (replicate b None) })
-    with_xs = subst (λ (l : List SeatProcess). FencedInv (record (no_process id terms watchers) { referees = held_by process_of_referee (replicate a None); xs = l })) (sym (held_none process_of_seat b)) with_referees
+    with_xs : FencedInv (earlier_in []) (record (no_process id terms watchers) { referees = held_by process_of_referee (replicate a None); xs = held_by process_of_seat (replicate b None) })
+    with_xs = subst (λ (l : List SeatProcess). FencedInv (earlier_in []) (record (no_process id terms watchers) { referees = held_by process_of_referee (replicate a None); xs = l })) (sym (held_none process_of_seat b)) with_referees
 
-    with_os : FencedInv (record (no_process id terms watchers) {
+    with_os : FencedInv (earlier_in []) (record (no_process id terms watchers) {
       referees = held_by process_of_referee (replicate a None);
       xs = held_by process_of_seat (replicate b None);
       os = held_by process_of_seat (replicate c None);
     })
-    with_os = subst (λ (l : List SeatProcess). FencedInv (record (no_process id terms watchers) { referees = held_by process_of_referee (replicate a None); xs = held_by process_of_seat (replicate b None); os = l })) (sym (held_none process_of_seat c)) with_xs
+    with_os = subst (λ (l : List SeatProcess). FencedInv (earlier_in []) (record (no_process id terms watchers) { referees = held_by process_of_referee (replicate a None); xs = held_by process_of_seat (replicate b None); os = l })) (sym (held_none process_of_seat c)) with_xs
 
     seats : (q : Player) (s : SeatView) → Contains (cores_of (no_node_begun id terms watchers a b c) q) (Some s) → IsSeatCoreOf id terms [] q s
     seats X s k = absurd (nobody b s k)
     seats O s k = absurd (nobody c s k)
 
-run_keeps : (m : SharedNodes) (hs : List (Event × Outcome)) (n : SharedNodes) → NodesInv m → NodesRun m hs n → NodesInv n
-run_keeps m [] n inv r = subst NodesInv (sym r) inv
-run_keeps m (h ∷ hs) n inv r = run_keeps r.0 hs n (acts_keep m h.0 h.1 r.0 inv r.1) r.2
+-- the start is the first moment
+first : (id : ℕ) (terms : Terms) (watchers a b c : ℕ) → IsSetup id terms watchers
+    → NodesInv (earlier_nodes (no_node_begun id terms watchers a b c ∷ [])) (no_node_begun id terms watchers a b c)
+first id terms watchers a b c setup =
+    let start = no_node_begun id terms watchers a b c in
+    remembers_slots {later = earlier_nodes (start ∷ [])} start (begun id terms watchers a b c setup)
+    (λ found w. inr (subst (λ (x : SharedNodes). SlotsRestore x.referee_slots.zero x.referee_slots.one found) (sym (only start w.0 w.1)) w.2))
+    (λ q found w. inr (subst (λ (x : SharedNodes). SlotsRestore (slots_of x q).zero (slots_of x q).one found) (sym (only start w.0 w.1)) w.2))
+  where
+    only : (start past : SharedNodes) → Contains (start ∷ []) past → start ≡ past
+    only start past k = elim (cases_in start past [] k) [
+      | inl e ↦ e
+      | inr g ↦ absurd (none_in past g)
+    ]
+
+run_keeps : (before : List SharedNodes) (m : SharedNodes) (hs : List (Event × Outcome)) (n : SharedNodes) → MomentsOk (m ∷ before) → NodesInv (earlier_nodes (m ∷ before)) m → NodesRun before m hs n
+    → (moments : List SharedNodes) × NodesInv (earlier_nodes moments) n
+run_keeps before m [] n were inv r = (m ∷ before, subst (NodesInv (earlier_nodes (m ∷ before))) (sym r) inv)
+run_keeps before m (h ∷ hs) n were inv r =
+    run_keeps (m ∷ before) r.0 hs n
+    (one_moment (m ∷ before) m r.0 (head_in m before) were (slots_keep (m ∷ before) m h.0 h.1 r.0 inv r.1))
+    (remembers_moment (m ∷ before) r.0 (acts_keep (m ∷ before) m h.0 h.1 r.0 were inv r.1)) r.2
 
 pub nodes_agree : (m : SharedNodes) → IsReachedByNodes m → (r : Restorable) × FencedHeadline (processes_of m r) × HoldsOfNewest (processes_of m r)
 nodes_agree m h =
-    let inv = run_keeps (no_node_begun h.id h.terms h.watchers h.referees h.xs h.os) h.history m (begun h.id h.terms h.watchers h.referees h.xs h.os h.setup) h.run in
+    let start = no_node_begun h.id h.terms h.watchers h.referees h.xs h.os in
+    let end = run_keeps [] start h.history m (first_moment h.id h.terms h.watchers h.referees h.xs h.os) (first h.id h.terms h.watchers h.referees h.xs h.os h.setup) h.run in
+    let inv = end.1 in
     (inv.restorable, headline (processes_of m inv.restorable) inv.inv, holds_of_newest (processes_of m inv.restorable) inv.inv)

@@ -8,17 +8,18 @@ use Rattle.bg_match.specs.Terms.{Terms}
 use Rattle.bg_match.specs.declared.actions.Action.{Action}
 use Rattle.bg_match.specs.declared.entries.Entry.{Entry}
 use Rattle.bg_party.specs.Claims.{claim_number}
+use Rattle.bg_wire.specs.Saved.SavedText.{SavedParts}
 use Rattle.bg_wire.specs.Saved.SlotLaws.{save_in}
 use Rattle.bg_wire.specs.declared.packets.Datagram.{Datagram}
 use Rattle.bg_world.specs.Promises.Agreement.{IsPrefix}
 use Rattle.bg_world.specs.Promises.Claims.{AreClaimsKept}
 use Rattle.bg_world.specs.Protocol.Datagrams.{Claimed}
-use Rattle.bg_world.specs.Protocol.Slots.{claim_in}
+use Rattle.bg_world.specs.Protocol.Slots.{claim_in, empty_slots}
 use Rattle.bg_world.specs.Protocol.State.{saved_log}
 use Rattle.bg_world.proofs.Protocol.Invariant.{Inv, SeatOk, RefereeOk, LegalClaim, LegalClaim-more, SeatOk-more}
 use Rattle.bg_world.proofs.Protocol.Lists.{prefix_trans}
 use Rattle.bg_fences.specs.SharedMatches.{RefereeProcess, SeatProcess, WatcherProcess, Stored, SharedMatch, stored_of, seats_of, settled}
-use Rattle.bg_fences.specs.SharedMatches.{at_rest, referee_as_seen, seat_as_seen}
+use Rattle.bg_fences.specs.SharedMatches.{at_rest, begun_referee, begun_seat, referee_as_seen, seat_as_seen}
 use Rattle.bg_fences.specs.ProcessCalls.{IsNewest}
 
 -- what the protocol's state at rest has saved: all that is settled
@@ -27,6 +28,18 @@ ready m = saved_log (at_rest m)
 
 pub ready_all : (m : SharedMatch) → ready m ≡ settled m
 ready_all m = take_all (length (settled m)) (settled m) (omega arith)
+
+-- what the slots of each party restored at some moment, as far as that is told
+pub record Earlier : Type 1 where
+  pub referee : Option SavedParts → Type 0
+  pub seat : Player → Option SavedParts → Type 0
+
+-- the process that begins with this
+abbrev pub referee_from : Option SavedParts → RefereeProcess
+referee_from found = begun_referee (record { slots = empty_slots; restorable = found })
+
+abbrev pub seat_from : Option SavedParts → SeatProcess
+seat_from found = begun_seat (record { slots = empty_slots; restorable = found })
 
 -- a process of the referee: what it has saved is settled; and one that counts from the newest save
 -- is as the protocol's referee
@@ -53,18 +66,21 @@ pub record SeatProcessOk (id : ℕ) (terms : Terms) (sent : List Datagram) (S : 
   pub was_saved : f.claim_saved ≡ true → (n : ℕ) (a : Action) → f.claim ≡ Some (n, a) → Contains ever (n, a)
   pub newest : IsNewest k.restorable f.last_save → SeatOk id terms sent S q (seat_as_seen k f)
 
--- all processes of a seat, with the claims that were ever saved
-pub record SeatsOk (id : ℕ) (terms : Terms) (sent : List Datagram) (S : List Entry) (q : Player) (k : Stored) (fs : List SeatProcess) : Type 0 where
+-- all processes of a seat, with the claims that were ever saved; and those that may begin with what
+-- was restored earlier
+pub record SeatsOk (earlier : Earlier) (id : ℕ) (terms : Terms) (sent : List Datagram) (S : List Entry) (q : Player) (k : Stored) (fs : List SeatProcess) : Type 0 where
   pub ever : List (ℕ × Action)
   pub kept : EverKept ever (claim_in k.restorable)
   pub in_slots : (n : ℕ) (a : Action) → claim_in k.restorable ≡ Some (n, a) → Contains ever (n, a)
   pub was_sent : (n : ℕ) (a : Action) → Claimed sent q n a → Contains ever (n, a)
   pub each : (f : SeatProcess) → Contains fs f → SeatProcessOk id terms sent S q k ever f
+  pub begun : (found : Option SavedParts) → earlier.seat q found → SeatProcessOk id terms sent S q k ever (seat_from found)
 
-pub record FencedInv (m : SharedMatch) : Type 0 where
+pub record FencedInv (earlier : Earlier) (m : SharedMatch) : Type 0 where
   pub base : Inv (at_rest m)
   pub referees : (p : RefereeProcess) → Contains m.referees p → RefereeProcessOk m.id m.terms m.sent (ready m) m.referee p
-  pub seats : (q : Player) → SeatsOk m.id m.terms m.sent (ready m) q (stored_of m q) (seats_of m q)
+  pub begun : (found : Option SavedParts) → earlier.referee found → RefereeProcessOk m.id m.terms m.sent (ready m) m.referee (referee_from found)
+  pub seats : (q : Player) → SeatsOk earlier m.id m.terms m.sent (ready m) q (stored_of m q) (seats_of m q)
   pub watching : (p : WatcherProcess) → Contains m.watching p → (p.index < m.watchers) × IsPrefix p.log (ready m)
 
 -- what is claimed of a seat, from what it ever saved
@@ -87,11 +103,12 @@ seat_process_more id terms sent S T q k ever f p h = record {
   newest = λ is. SeatOk-more id terms sent S T q (seat_as_seen k f) p (h.newest is);
 }
 
-pub seats_more : (id : ℕ) (terms : Terms) (sent : List Datagram) (S T : List Entry) (q : Player) (k : Stored) (fs : List SeatProcess) → IsPrefix S T → SeatsOk id terms sent S q k fs → SeatsOk id terms sent T q k fs
+pub seats_more : {earlier : Earlier} (id : ℕ) (terms : Terms) (sent : List Datagram) (S T : List Entry) (q : Player) (k : Stored) (fs : List SeatProcess) → IsPrefix S T → SeatsOk earlier id terms sent S q k fs → SeatsOk earlier id terms sent T q k fs
 seats_more id terms sent S T q k fs p h = record {
   ever = h.ever;
   kept = h.kept;
   in_slots = h.in_slots;
   was_sent = h.was_sent;
   each = λ f c. seat_process_more id terms sent S T q k h.ever f p (h.each f c);
+  begun = λ found w. seat_process_more id terms sent S T q k h.ever (seat_from found) p (h.begun found w);
 }

@@ -10,9 +10,14 @@ pub mod Words
 pub mod RefereeNodes
 pub mod SeatNodes
 pub mod NodeLists
+pub mod SlotReads
 pub mod NodeCalls
 pub mod SeatNodeCalls
+pub mod NodeMoments
 pub mod AllNodes
+pub mod PromptRuns
 pub mod WorkedProcesses
+pub mod WorkedLateProcesses
 pub mod WorkedControls
 pub mod WorkedNodes
+pub mod WorkedLateNodes

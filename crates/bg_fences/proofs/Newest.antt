@@ -15,7 +15,7 @@ use Rattle.bg_world.proofs.Protocol.Invariant.{Inv, seat_steps}
 use Rattle.bg_world.proofs.Protocol.Reached.{agreement, headline, no_more, no_packet_refused, no_slot_refused, saves_survive}
 use Rattle.bg_fences.specs.FencedPromises.{HoldsOfNewest, HoldsOfOne}
 use Rattle.bg_fences.specs.SharedMatches.{SeatProcess, SharedMatch, at_rest, seats_of, seen_by_referee, seen_by_seat, stored_of}
-use Rattle.bg_fences.proofs.Invariant.{FencedInv, ready}
+use Rattle.bg_fences.proofs.Invariant.{Earlier, FencedInv, ready}
 use Rattle.bg_fences.proofs.RefereeCalls as at_referee
 use Rattle.bg_fences.proofs.SeatCalls as at_seat
 
@@ -54,26 +54,26 @@ same_logs_o m f (AsSeat X) = refl
 same_logs_o m f (AsSeat O) = refl
 same_logs_o m f (AsWatcher i) = refl
 
-rests : (m : SharedMatch) (q : Player) (f : SeatProcess) (inv : FencedInv m) → Contains (seats_of m q) f → Inv (with_seat (at_rest m) q (resting m q f))
-rests m X f inv c = seat_steps (at_rest m) X (resting m X f) inv.base (at_seat.with_log m.id m.terms m.sent (ready m) X (restored_seat m.x.slots m.x.restorable true) f.log inv.base.x ((inv.seats X).each f c).log)
-rests m O f inv c = seat_steps (at_rest m) O (resting m O f) inv.base (at_seat.with_log m.id m.terms m.sent (ready m) O (restored_seat m.o.slots m.o.restorable true) f.log inv.base.o ((inv.seats O).each f c).log)
+rests : {earlier : Earlier} (m : SharedMatch) (q : Player) (f : SeatProcess) (inv : FencedInv earlier m) → Contains (seats_of m q) f → Inv (with_seat (at_rest m) q (resting m q f))
+rests {earlier} m X f inv c = seat_steps (at_rest m) X (resting m X f) inv.base (at_seat.with_log m.id m.terms m.sent (ready m) X (restored_seat m.x.slots m.x.restorable true) f.log inv.base.x ((inv.seats X).each f c).log)
+rests {earlier} m O f inv c = seat_steps (at_rest m) O (resting m O f) inv.base (at_seat.with_log m.id m.terms m.sent (ready m) O (restored_seat m.o.slots m.o.restorable true) f.log inv.base.o ((inv.seats O).each f c).log)
 
-entries : (m : SharedMatch) (q : Player) (f : SeatProcess) (inv : FencedInv m) → Contains (seats_of m q) f → AreNoEntriesRefused (seen_by_seat m q f)
-entries m X f inv c =
+entries : {earlier : Earlier} (m : SharedMatch) (q : Player) (f : SeatProcess) (inv : FencedInv earlier m) → Contains (seats_of m q) f → AreNoEntriesRefused (seen_by_seat m q f)
+entries {earlier} m X f inv c =
     let h = (no_packet_refused (with_seat (at_rest m) X (resting m X f)) (rests m X f inv c)).entries in
     record {
       agree = λ party log to id rules start list l g s. h.agree party log to id rules start list l (sym (same_logs_x m f (role party)) ∙ g) s;
       follow = λ party log to id rules start list l g s. h.follow party log to id rules start list l (sym (same_logs_x m f (role party)) ∙ g) s;
     }
-entries m O f inv c =
+entries {earlier} m O f inv c =
     let h = (no_packet_refused (with_seat (at_rest m) O (resting m O f)) (rests m O f inv c)).entries in
     record {
       agree = λ party log to id rules start list l g s. h.agree party log to id rules start list l (sym (same_logs_o m f (role party)) ∙ g) s;
       follow = λ party log to id rules start list l g s. h.follow party log to id rules start list l (sym (same_logs_o m f (role party)) ∙ g) s;
     }
 
-pub holds_of_newest : (m : SharedMatch) → FencedInv m → HoldsOfNewest m
-holds_of_newest m inv = record {
+pub holds_of_newest : {earlier : Earlier} (m : SharedMatch) → FencedInv earlier m → HoldsOfNewest m
+holds_of_newest {earlier} m inv = record {
   rest = holds_of_one (at_rest m) inv.base;
   referees = λ p c is. holds_of_one (seen_by_referee m p) (at_referee.as_newest m p inv (inv.referees p c) is);
   seats = λ q f c is. holds_of_one (seen_by_seat m q f) (at_seat.as_newest m q f inv ((inv.seats q).each f c) is);

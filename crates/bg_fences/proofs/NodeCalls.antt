@@ -10,6 +10,7 @@ use Rattle.bg_referee.specs.Referee.{RefereeView, referee_after_save}
 use Rattle.bg_party.specs.Views.{SeatView, WatcherView}
 use Rattle.bg_wire.specs.Parties.{party_of}
 use Rattle.bg_wire.specs.Entries.Codes.{first_watcher}
+use Rattle.bg_wire.specs.Saved.Restoring.{SlotsRestore}
 use Rattle.bg_wire.specs.Saved.SavedText.{SavedParts}
 use Rattle.bg_wire.specs.Saved.SlotLaws.{Slots}
 use Rattle.bg_wire.specs.declared.packets.Datagram.{Datagram}
@@ -27,23 +28,22 @@ use Rattle.bg_fences.specs.SharedMatches.{SharedMatch, Becomes, seen_by_referee}
 use Rattle.bg_fences.specs.ProcessCalls.{RefereeGoes}
 use Rattle.bg_fences.specs.SharedNodes.{SharedNodes, IsFencedAt, cores_of, all_parties, referee_number, held_by, stored_in, process_of_referee, processes_of}
 use Rattle.bg_fences.specs.NodeActs.{referee_with}
-use Rattle.bg_fences.proofs.Invariant.{FencedInv}
+use Rattle.bg_fences.proofs.Invariant.{Earlier, FencedInv}
 use Rattle.bg_fences.proofs.RefereeCalls as at_referee
-use Rattle.bg_fences.proofs.AllCalls.{begun}
 use Rattle.bg_fences.proofs.NodeLists.{held_becomes, in_held, each_core, each_held}
 use Rattle.bg_fences.proofs.Lists.{was_in}
 use Rattle.bg_fences.proofs.RefereeNodes.{IsCoreOf, state_of, due_told, tick_row, take_row, Comes, whole, part, refused, nothing_saved, saves_to, ComesBack, up, down, restarts_to, is_newest}
 use Rattle.bg_fences.proofs.SeatNodes.{IsSeatCoreOf, IsWatcherCoreOf}
 
-pub record NodesInv (m : SharedNodes) : Type 0 where
+pub record NodesInv (earlier : Earlier) (m : SharedNodes) : Type 0 where
   pub restorable : Restorable
-  pub inv : FencedInv (processes_of m restorable)
+  pub inv : FencedInv earlier (processes_of m restorable)
   pub referees : (c : RefereeView) → Contains m.referees (Some c) → IsCoreOf m.id m.terms (c.next_save - 1) c
   pub seats : (q : Player) (s : SeatView) → Contains (cores_of m q) (Some s) → IsSeatCoreOf m.id m.terms m.sent q s
   pub watching : (f : WatcherView) → Contains m.watching f → (index : ℕ) × IsWatcherCoreOf m.id m.terms m.sent index f
 
-abbrev pub law_of : (m : SharedNodes) → NodesInv m → SharedMatch
-law_of m inv = processes_of m inv.restorable
+abbrev pub law_of : {earlier : Earlier} (m : SharedNodes) → NodesInv earlier m → SharedMatch
+law_of {earlier} m inv = processes_of m inv.restorable
 
 -- ---- what was shown stays known
 
@@ -67,10 +67,10 @@ watcher_knows id terms sent new out index f e h = record {
 abbrev RefereeAfter : SharedNodes → List (Option RefereeView) → Slots → List Datagram → SharedNodes
 RefereeAfter m cores slots sent = record m { referees = cores; referee_slots = slots; sent = sent }
 
-finish : (m : SharedNodes) (inv : NodesInv m) (core d : Option RefereeView) (cores : List (Option RefereeView)) (slots : Slots) (found : Option SavedParts) (sent out : List Datagram)
+finish : {earlier : Earlier} (m : SharedNodes) (inv : NodesInv earlier m) (core d : Option RefereeView) (cores : List (Option RefereeView)) (slots : Slots) (found : Option SavedParts) (sent out : List Datagram)
     → Becomes m.referees core (d ∷ []) cores → ((c : RefereeView) → d ≡ Some c → IsCoreOf m.id m.terms (c.next_save - 1) c) → sent ≡ m.sent ++ out
-    → FencedInv (record (law_of m inv) { referees = held_by process_of_referee cores; referee = stored_in slots found; sent = sent }) → NodesInv (RefereeAfter m cores slots sent)
-finish m inv core d cores slots found sent out b new e after = record {
+    → FencedInv earlier (record (law_of m inv) { referees = held_by process_of_referee cores; referee = stored_in slots found; sent = sent }) → NodesInv earlier (RefereeAfter m cores slots sent)
+finish {earlier} m inv core d cores slots found sent out b new e after = record {
   restorable = record (inv.restorable) { referee = found };
   inv = after;
   referees = each_core (λ (c : RefereeView). IsCoreOf m.id m.terms (c.next_save - 1) c) m.referees core d cores b inv.referees new;
@@ -83,34 +83,34 @@ finish m inv core d cores slots found sent out b new e after = record {
     seats O s k = seat_knows m.id m.terms m.sent sent out O s e (inv.seats O s k)
 
 -- the slots stay
-same_slots : (m : SharedNodes) (inv : NodesInv m) (core d : Option RefereeView) (cores : List (Option RefereeView)) (slots : Slots) (sent out : List Datagram)
+same_slots : {earlier : Earlier} (m : SharedNodes) (inv : NodesInv earlier m) (core d : Option RefereeView) (cores : List (Option RefereeView)) (slots : Slots) (sent out : List Datagram)
     → Becomes m.referees core (d ∷ []) cores → ((c : RefereeView) → d ≡ Some c → IsCoreOf m.id m.terms (c.next_save - 1) c) → sent ≡ m.sent ++ out → slots ≡ m.referee_slots
-    → FencedInv (record (law_of m inv) { referees = held_by process_of_referee cores; sent = sent }) → NodesInv (RefereeAfter m cores slots sent)
-same_slots m inv core d cores slots sent out b new e s after =
+    → FencedInv earlier (record (law_of m inv) { referees = held_by process_of_referee cores; sent = sent }) → NodesInv earlier (RefereeAfter m cores slots sent)
+same_slots {earlier} m inv core d cores slots sent out b new e s after =
     finish m inv core d cores slots inv.restorable.referee sent out b new e
-    (subst (λ (x : Slots). FencedInv (record (law_of m inv) { referees = held_by process_of_referee cores; referee = stored_in x inv.restorable.referee; sent = sent })) (sym s) after)
+    (subst (λ (x : Slots). FencedInv earlier (record (law_of m inv) { referees = held_by process_of_referee cores; referee = stored_in x inv.restorable.referee; sent = sent })) (sym s) after)
 
 -- nothing was sent or written: the node is down, or up with a core in order
-rests : (m : SharedNodes) (inv : NodesInv m) (core d : Option RefereeView) (cores : List (Option RefereeView)) (slots : Slots) (sent : List Datagram)
+rests : {earlier : Earlier} (m : SharedNodes) (inv : NodesInv earlier m) (core d : Option RefereeView) (cores : List (Option RefereeView)) (slots : Slots) (sent : List Datagram)
     → Becomes m.referees core (d ∷ []) cores → slots ≡ m.referee_slots → sent ≡ m.sent
     → ((c : RefereeView) → d ≡ Some c → at_referee.IsInOrder (law_of m inv) (process_of_referee c) × IsCoreOf m.id m.terms (c.next_save - 1) c)
-    → NodesInv (RefereeAfter m cores slots sent)
-rests m inv core d cores slots sent b s e new =
+    → NodesInv earlier (RefereeAfter m cores slots sent)
+rests {earlier} m inv core d cores slots sent b s e new =
     let S = law_of m inv in
     same_slots m inv core d cores slots sent [] b (λ c is. (new c is).1) (e ∙ sym (append-nil m.sent)) s
-    (subst (λ (l : List Datagram). FencedInv (record S { referees = held_by process_of_referee cores; sent = l })) (sym e)
+    (subst (λ (l : List Datagram). FencedInv earlier (record S { referees = held_by process_of_referee cores; sent = l })) (sym e)
     (at_referee.with_referees S (held_by process_of_referee cores) inv.inv
     (each_held process_of_referee (at_referee.IsInOrder S) m.referees core d cores b (inv.inv).referees (λ c is. (new c is).0))))
 
-is_down : (m : SharedNodes) (inv : NodesInv m) (core d : Option RefereeView) (cores : List (Option RefereeView)) (slots : Slots) (sent : List Datagram)
-    → Becomes m.referees core (d ∷ []) cores → slots ≡ m.referee_slots → sent ≡ m.sent → d ≡ None → NodesInv (RefereeAfter m cores slots sent)
-is_down m inv core d cores slots sent b s e none = rests m inv core d cores slots sent b s e (λ c is. absurd (clash c (sym none ∙ is)))
+is_down : {earlier : Earlier} (m : SharedNodes) (inv : NodesInv earlier m) (core d : Option RefereeView) (cores : List (Option RefereeView)) (slots : Slots) (sent : List Datagram)
+    → Becomes m.referees core (d ∷ []) cores → slots ≡ m.referee_slots → sent ≡ m.sent → d ≡ None → NodesInv earlier (RefereeAfter m cores slots sent)
+is_down {earlier} m inv core d cores slots sent b s e none = rests m inv core d cores slots sent b s e (λ c is. absurd (clash c (sym none ∙ is)))
   where
     clash : (c : RefereeView) → ◌≡◌ {A = Option RefereeView} None (Some c) → ⊥
     clash c k = cc
 
 -- a core that acted: its number stays
-module _ (m : SharedNodes) (inv : NodesInv m) (c c' : RefereeView) (cores : List (Option RefereeView)) (b : Becomes m.referees (Some c) (Some c' ∷ []) cores)
+module _ {earlier : Earlier} (m : SharedNodes) (inv : NodesInv earlier m) (c c' : RefereeView) (cores : List (Option RefereeView)) (b : Becomes m.referees (Some c) (Some c' ∷ []) cores)
     (fits : IsCoreOf m.id m.terms (c.next_save - 1) c') where
   goes_on : (sent : List Datagram) → RefereeGoes (law_of m inv) (process_of_referee c) (state_of (law_of m inv) sent c') (record (law_of m inv) { referees = held_by process_of_referee cores; sent = sent })
   goes_on sent =
@@ -126,22 +126,22 @@ module _ (m : SharedNodes) (inv : NodesInv m) (c c' : RefereeView) (cores : List
       let same : c' ≡ x = same_Some c' x e in
       subst (λ (y : RefereeView). IsCoreOf m.id m.terms (y.next_save - 1) y) same (record { log = fits.log; numbered = omega (fits.numbered, arith) })
 
-the_core : (m : SharedNodes) (inv : NodesInv m) (c : RefereeView) (d : Option RefereeView) (cores : List (Option RefereeView)) → Becomes m.referees (Some c) (d ∷ []) cores → IsCoreOf m.id m.terms (c.next_save - 1) c
-the_core m inv c d cores b = inv.referees c (was_in m.referees (Some c) (d ∷ []) cores b)
+the_core : {earlier : Earlier} (m : SharedNodes) (inv : NodesInv earlier m) (c : RefereeView) (d : Option RefereeView) (cores : List (Option RefereeView)) → Becomes m.referees (Some c) (d ∷ []) cores → IsCoreOf m.id m.terms (c.next_save - 1) c
+the_core {earlier} m inv c d cores b = inv.referees c (was_in m.referees (Some c) (d ∷ []) cores b)
 
 -- what is told of a node afterwards, by what it comes to
-node_is : (m : SharedNodes) (cores : List (Option RefereeView)) (sent : List Datagram) (core : Option RefereeView) (after now : RefereeNodeView) → after ≡ now
-    → (Becomes m.referees core (now.core ∷ []) cores → NodesInv (RefereeAfter m cores m.referee_slots sent))
-    → Becomes m.referees core (after.core ∷ []) cores → NodesInv (RefereeAfter m cores m.referee_slots sent)
-node_is m cores sent core after now e f =
-    subst (λ (x : RefereeNodeView). Becomes m.referees core (x.core ∷ []) cores → NodesInv (RefereeAfter m cores m.referee_slots sent)) (sym e) f
+node_is : {earlier : Earlier} (m : SharedNodes) (cores : List (Option RefereeView)) (sent : List Datagram) (core : Option RefereeView) (after now : RefereeNodeView) → after ≡ now
+    → (Becomes m.referees core (now.core ∷ []) cores → NodesInv earlier (RefereeAfter m cores m.referee_slots sent))
+    → Becomes m.referees core (after.core ∷ []) cores → NodesInv earlier (RefereeAfter m cores m.referee_slots sent)
+node_is {earlier} m cores sent core after now e f =
+    subst (λ (x : RefereeNodeView). Becomes m.referees core (x.core ∷ []) cores → NodesInv earlier (RefereeAfter m cores m.referee_slots sent)) (sym e) f
 
-pub due_acts : (m : SharedNodes) (inv : NodesInv m) (word : ℕ) (o : Outcome) (core : Option RefereeView) (after : RefereeNodeView) (cores : List (Option RefereeView))
+pub due_acts : {earlier : Earlier} (m : SharedNodes) (inv : NodesInv earlier m) (word : ℕ) (o : Outcome) (core : Option RefereeView) (after : RefereeNodeView) (cores : List (Option RefereeView))
     → RefereeNodeDues (referee_with m core) word o after
-    → Becomes m.referees core (after.core ∷ []) cores → NodesInv (RefereeAfter m cores m.referee_slots m.sent)
-due_acts m inv word o None after cores h =
+    → Becomes m.referees core (after.core ∷ []) cores → NodesInv earlier (RefereeAfter m cores m.referee_slots m.sent)
+due_acts {earlier} m inv word o None after cores h =
     node_is m cores m.sent None after (referee_with m None) h.1 (λ b. is_down m inv None None cores m.referee_slots m.sent b refl refl refl)
-due_acts m inv word o (Some c) after cores h =
+due_acts {earlier} m inv word o (Some c) after cores h =
     node_is m cores m.sent (Some c) after (referee_with m (Some h.1)) h.4
     (λ b.
     let S = law_of m inv in
@@ -154,12 +154,12 @@ due_acts m inv word o (Some c) after cores h =
 abbrev Grown : List Datagram → List Datagram → Type 0
 Grown old new = (out : List Datagram) × (new ≡ old ++ out)
 
-pub tick_acts : (m : SharedNodes) (inv : NodesInv m) (o : Outcome) (core : Option RefereeView) (old new : LinkView) (after : RefereeNodeView) (cores : List (Option RefereeView))
+pub tick_acts : {earlier : Earlier} (m : SharedNodes) (inv : NodesInv earlier m) (o : Outcome) (core : Option RefereeView) (old new : LinkView) (after : RefereeNodeView) (cores : List (Option RefereeView))
     → old.sent ≡ m.sent → RefereeNodeTicks ⊤ (all_parties m) old (referee_with m core) o new after
-    → Becomes m.referees core (after.core ∷ []) cores → NodesInv (RefereeAfter m cores m.referee_slots new.sent)
-tick_acts m inv o None old new after cores e h =
+    → Becomes m.referees core (after.core ∷ []) cores → NodesInv earlier (RefereeAfter m cores m.referee_slots new.sent)
+tick_acts {earlier} m inv o None old new after cores e h =
     node_is m cores new.sent None after (referee_with m None) h.2 (λ b. is_down m inv None None cores m.referee_slots new.sent b refl (ap (λ (x : LinkView). x.sent) h.1 ∙ e) refl)
-tick_acts m inv o (Some c) old new after cores e h =
+tick_acts {earlier} m inv o (Some c) old new after cores e h =
     node_is m cores new.sent (Some c) after (referee_with m (Some h.0)) h.2
     (λ b.
     let S = law_of m inv in
@@ -169,12 +169,12 @@ tick_acts m inv o (Some c) old new after cores e h =
     same_slots m inv (Some c) (Some h.0) cores m.referee_slots new.sent grown.0 b (own m inv c h.0 cores b t.1) grown.1 refl
     (at_referee.ticks S (process_of_referee c) o (state_of S new.sent h.0) n inv.inv t.0 (goes_on m inv c h.0 cores b t.1 new.sent)))
 
-pub take_acts : (m : SharedNodes) (inv : NodesInv m) (pick word : ℕ) (o : Outcome) (core : Option RefereeView) (old new : LinkView) (after : RefereeNodeView) (cores : List (Option RefereeView))
+pub take_acts : {earlier : Earlier} (m : SharedNodes) (inv : NodesInv earlier m) (pick word : ℕ) (o : Outcome) (core : Option RefereeView) (old new : LinkView) (after : RefereeNodeView) (cores : List (Option RefereeView))
     → old.sent ≡ m.sent → RefereeNodeTakes ⊤ (all_parties m) old (referee_with m core) pick word o new after
-    → Becomes m.referees core (after.core ∷ []) cores → NodesInv (RefereeAfter m cores m.referee_slots new.sent)
-take_acts m inv pick word o None old new after cores e h =
+    → Becomes m.referees core (after.core ∷ []) cores → NodesInv earlier (RefereeAfter m cores m.referee_slots new.sent)
+take_acts {earlier} m inv pick word o None old new after cores e h =
     node_is m cores new.sent None after (referee_with m None) h.2 (λ b. is_down m inv None None cores m.referee_slots new.sent b refl (ap (λ (x : LinkView). x.sent) h.1 ∙ e) refl)
-take_acts m inv pick word o (Some c) old new after cores e h =
+take_acts {earlier} m inv pick word o (Some c) old new after cores e h =
     node_is m cores new.sent (Some c) after (referee_with m (Some h.0)) h.2
     (λ b.
     let S = law_of m inv in
@@ -184,13 +184,13 @@ take_acts m inv pick word o (Some c) old new after cores e h =
     same_slots m inv (Some c) (Some h.0) cores m.referee_slots new.sent grown.0 b (own m inv c h.0 cores b t.1) grown.1 refl
     (at_referee.takes_packet S (process_of_referee c) word o (state_of S new.sent h.0) n inv.inv t.0 (goes_on m inv c h.0 cores b t.1 new.sent)))
 
-pub save_acts : (m : SharedNodes) (inv : NodesInv m) (o : Outcome) (core : Option RefereeView) (keeper new : KeeperView) (after : RefereeNodeView) (cores : List (Option RefereeView))
+pub save_acts : {earlier : Earlier} (m : SharedNodes) (inv : NodesInv earlier m) (o : Outcome) (core : Option RefereeView) (keeper new : KeeperView) (after : RefereeNodeView) (cores : List (Option RefereeView))
     → keeper.slots ≡ m.referee_slots → RefereeNodeSaves ⊤ keeper (referee_with m core) o new after
     → IsFencedAt keeper.slots (referee_number core) o new.slots
-    → Becomes m.referees core (after.core ∷ []) cores → NodesInv (RefereeAfter m cores new.slots m.sent)
-save_acts m inv o None keeper new after cores s h fence b =
+    → Becomes m.referees core (after.core ∷ []) cores → NodesInv earlier (RefereeAfter m cores new.slots m.sent)
+save_acts {earlier} m inv o None keeper new after cores s h fence b =
     is_down m inv None after.core cores new.slots m.sent b (fence ∙ s) refl h.0.2
-save_acts m inv o (Some c) keeper new after cores s h fence b =
+save_acts {earlier} m inv o (Some c) keeper new after cores s h fence b =
     at_place (saves_to (law_of m inv) (c.next_save - 1) c keeper new o after.core fits ((inv.inv).base.referee.slots) s h.0 fence)
   where
     fits : IsCoreOf m.id m.terms (c.next_save - 1) c
@@ -200,11 +200,11 @@ save_acts m inv o (Some c) keeper new after cores s h fence b =
     ok = (inv.inv).referees (process_of_referee c) (in_held process_of_referee m.referees c (was_in m.referees (Some c) (after.core ∷ []) cores b))
 
     moved : (d : Option RefereeView) (found : Option SavedParts) → after.core ≡ d → ((x : RefereeView) → d ≡ Some x → IsCoreOf m.id m.terms (x.next_save - 1) x)
-        → FencedInv (record (law_of m inv) { referees = held_by process_of_referee cores; referee = stored_in new.slots found }) → NodesInv (RefereeAfter m cores new.slots m.sent)
+        → FencedInv earlier (record (law_of m inv) { referees = held_by process_of_referee cores; referee = stored_in new.slots found }) → NodesInv earlier (RefereeAfter m cores new.slots m.sent)
     moved d found is own k =
         finish m inv (Some c) d cores new.slots found m.sent [] (subst (λ (x : Option RefereeView). Becomes m.referees (Some c) (x ∷ []) cores) is b) own (sym (append-nil m.sent)) k
 
-    at_place : Comes (law_of m inv) c o new.slots after.core → NodesInv (RefereeAfter m cores new.slots m.sent)
+    at_place : Comes (law_of m inv) c o new.slots after.core → NodesInv earlier (RefereeAfter m cores new.slots m.sent)
     at_place (whole next f g w) =
         moved (Some (referee_after_save c c.next_save)) (Some (to_save_referee (state_of (law_of m inv) m.sent c))) g
         (λ x is. subst (λ (y : RefereeView). IsCoreOf m.id m.terms (y.next_save - 1) y) (same_Some (referee_after_save c c.next_save) x is)
@@ -252,17 +252,14 @@ save_acts m inv o (Some c) keeper new after cores s h fence b =
         rests m inv (Some c) after.core cores new.slots m.sent b t refl
         (λ x is. subst (λ (y : RefereeView). at_referee.IsInOrder (law_of m inv) (process_of_referee y) × IsCoreOf m.id m.terms (y.next_save - 1) y) (same_Some c x (sym g ∙ is)) (ok, fits))
 
-pub restart_acts : (m : SharedNodes) (inv : NodesInv m) (o : Outcome) (core : Option RefereeView) (keeper new : KeeperView) (after : RefereeNodeView) (cores : List (Option RefereeView))
-    → keeper.slots ≡ m.referee_slots → RefereeNodeRestarts ⊤ keeper (referee_with m core) o new after
-    → Becomes m.referees core (after.core ∷ []) cores → NodesInv (RefereeAfter m cores new.slots m.sent)
-restart_acts m inv o core keeper new after cores s h b = at_place r.0
+pub restart_acts : {earlier : Earlier} (m : SharedNodes) (inv : NodesInv earlier m) (o : Outcome) (core : Option RefereeView) (keeper new : KeeperView) (after : RefereeNodeView) (cores : List (Option RefereeView))
+    → ((found : Option SavedParts) → SlotsRestore keeper.slots.zero keeper.slots.one found → earlier.referee found) → RefereeNodeRestarts ⊤ keeper (referee_with m core) o new after
+    → Becomes m.referees core (after.core ∷ []) cores → NodesInv earlier (RefereeAfter m cores m.referee_slots m.sent)
+restart_acts {earlier} m inv o core keeper new after cores was h b = at_place (restarts_to m.id m.terms keeper new o after.core h.0)
   where
-    r : ComesBack (law_of m inv) o after.core × (new.slots ≡ m.referee_slots)
-    r = restarts_to (law_of m inv) keeper new o after.core ((inv.inv).base.referee.slots) s h.0
-
-    at_place : ComesBack (law_of m inv) o after.core → NodesInv (RefereeAfter m cores new.slots m.sent)
-    at_place (up c f g is fits) =
-        rests m inv core after.core cores new.slots m.sent b r.1 refl
+    at_place : ComesBack m.id m.terms keeper.slots after.core → NodesInv earlier (RefereeAfter m cores m.referee_slots m.sent)
+    at_place (up c found restore g is fits) =
+        rests m inv core after.core cores m.referee_slots m.sent b refl refl
         (λ x k. subst (λ (y : RefereeView). at_referee.IsInOrder (law_of m inv) (process_of_referee y) × IsCoreOf m.id m.terms (y.next_save - 1) y) (same_Some c x (sym g ∙ k))
-        (subst (at_referee.IsInOrder (law_of m inv)) (sym is) (begun (law_of m inv) inv.inv), fits))
-    at_place (down g) = is_down m inv core after.core cores new.slots m.sent b r.1 refl g
+        (subst (at_referee.IsInOrder (law_of m inv)) (sym is) ((inv.inv).begun found (was found restore)), fits))
+    at_place (down g) = is_down m inv core after.core cores m.referee_slots m.sent b refl refl g

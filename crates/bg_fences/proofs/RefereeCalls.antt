@@ -35,54 +35,55 @@ use Rattle.bg_world.proofs.Protocol.Saving.{after_whole, after_torn}
 use Rattle.bg_fences.specs.SharedMatches.{RefereeProcess, Stored, SharedMatch, stored_of, seats_of, settled, at_rest, seen_by_referee, referee_as_seen, referee_process, Becomes}
 use Rattle.bg_fences.specs.ProcessCalls.{IsNewest, RefereeGoes, RefereeSaves}
 use Rattle.bg_fences.proofs.Lists.{was_in, each_becomes, of_one, none_in}
-use Rattle.bg_fences.proofs.Invariant.{FencedInv, RefereeProcessOk, SeatsOk, ready, ready_all, seats_more}
+use Rattle.bg_fences.proofs.Invariant.{Earlier, FencedInv, RefereeProcessOk, SeatsOk, ready, ready_all, referee_from, seats_more}
 use Rattle.bg_fences.proofs.Sending.{IsEver, ever_of, MayGo, sends_all, referee_process_more}
 
 abbrev pub IsInOrder : SharedMatch → RefereeProcess → Type 0
 IsInOrder m p = RefereeProcessOk m.id m.terms m.sent (ready m) m.referee p
 
 -- one that counts from the newest save is the referee of a state of the protocol
-pub as_newest : (m : SharedMatch) (p : RefereeProcess) → FencedInv m → IsInOrder m p → IsNewest m.referee.restorable p.last_save → Inv (seen_by_referee m p)
-as_newest m p inv ok is =
+pub as_newest : {earlier : Earlier} (m : SharedMatch) (p : RefereeProcess) → FencedInv earlier m → IsInOrder m p → IsNewest m.referee.restorable p.last_save → Inv (seen_by_referee m p)
+as_newest {earlier} m p inv ok is =
     let new = ok.newest is in
     referee_steps (at_rest m) (referee_as_seen m.referee p) inv.base new
     (subst (λ (l : List Entry). IsPrefix (ready m) l) new.restorable (prefix_take (length (settled m)) (settled m)))
 
 -- ---- the process is another afterwards, what it sent may be sent, and all else stays
 
-pub goes : (m : SharedMatch) (p : RefereeProcess) (v : ProtocolState) (n : SharedMatch) (inv : FencedInv m) → RefereeGoes m p v n
+pub goes : {earlier : Earlier} (m : SharedMatch) (p : RefereeProcess) (v : ProtocolState) (n : SharedMatch) (inv : FencedInv earlier m) → RefereeGoes m p v n
     → (out : List Datagram) → v.sent ≡ m.sent ++ out → All (MayGo m inv) out
-    → RefereeProcessOk m.id m.terms (m.sent ++ out) (ready m) m.referee (referee_process v.referee p.last_save) → FencedInv n
-goes m p v n inv h out e may ok =
-    subst FencedInv (sym h.2) (subst (λ (s : List Datagram). FencedInv (record m { referees = h.0; sent = s })) (sym e) after)
+    → RefereeProcessOk m.id m.terms (m.sent ++ out) (ready m) m.referee (referee_process v.referee p.last_save) → FencedInv earlier n
+goes {earlier} m p v n inv h out e may ok =
+    subst (FencedInv earlier) (sym h.2) (subst (λ (s : List Datagram). FencedInv earlier (record m { referees = h.0; sent = s })) (sym e) after)
   where
-    sent : FencedInv (record m { sent = m.sent ++ out })
+    sent : FencedInv earlier (record m { sent = m.sent ++ out })
     sent = sends_all m out inv may
 
-    after : FencedInv (record m { referees = h.0; sent = m.sent ++ out })
+    after : FencedInv earlier (record m { referees = h.0; sent = m.sent ++ out })
     after = record {
       base = sent.base;
       referees = each_becomes (RefereeProcessOk m.id m.terms (m.sent ++ out) (ready m) m.referee) m.referees p (referee_process v.referee p.last_save ∷ []) h.0 h.1 sent.referees
           (of_one (RefereeProcessOk m.id m.terms (m.sent ++ out) (ready m) m.referee) (referee_process v.referee p.last_save) ok);
+      begun = sent.begun;
       seats = λ q. seats q;
       watching = sent.watching;
     }
       where
-        seats : (q : Player) → SeatsOk m.id m.terms (m.sent ++ out) (ready m) q (stored_of (record m { referees = h.0; sent = m.sent ++ out }) q) (seats_of (record m { referees = h.0; sent = m.sent ++ out }) q)
+        seats : (q : Player) → SeatsOk earlier m.id m.terms (m.sent ++ out) (ready m) q (stored_of (record m { referees = h.0; sent = m.sent ++ out }) q) (seats_of (record m { referees = h.0; sent = m.sent ++ out }) q)
         seats X = sent.seats X
         seats O = sent.seats O
 
 -- nothing was sent
-quiet : (m : SharedMatch) (p : RefereeProcess) (v : ProtocolState) (n : SharedMatch) (inv : FencedInv m) → RefereeGoes m p v n
-    → v.sent ≡ m.sent → IsInOrder m (referee_process v.referee p.last_save) → FencedInv n
-quiet m p v n inv h e ok =
+quiet : {earlier : Earlier} (m : SharedMatch) (p : RefereeProcess) (v : ProtocolState) (n : SharedMatch) (inv : FencedInv earlier m) → RefereeGoes m p v n
+    → v.sent ≡ m.sent → IsInOrder m (referee_process v.referee p.last_save) → FencedInv earlier n
+quiet {earlier} m p v n inv h e ok =
     goes m p v n inv h [] (e ∙ sym (append-nil m.sent)) (All-nil (MayGo m inv))
     (referee_process_more m.id m.terms m.sent [] (ready m) m.referee (referee_process v.referee p.last_save) ok)
 
 -- nothing changed
-stays : (m : SharedMatch) (p : RefereeProcess) (v : ProtocolState) (n : SharedMatch) (inv : FencedInv m) → RefereeGoes m p v n
-    → v ≡ seen_by_referee m p → FencedInv n
-stays m p v n inv h e =
+stays : {earlier : Earlier} (m : SharedMatch) (p : RefereeProcess) (v : ProtocolState) (n : SharedMatch) (inv : FencedInv earlier m) → RefereeGoes m p v n
+    → v ≡ seen_by_referee m p → FencedInv earlier n
+stays {earlier} m p v n inv h e =
     quiet m p v n inv h (ap (λ (x : ProtocolState). x.sent) e)
     (subst (λ (x : ProtocolState). IsInOrder m (referee_process x.referee p.last_save)) (sym e)
     (inv.referees p (was_in m.referees p (referee_process v.referee p.last_save ∷ []) h.0 h.1)))
@@ -100,50 +101,50 @@ pushes m p e ok next new = record {
   newest = λ is. (new is).referee;
 }
 
-grows : (m : SharedMatch) (p : RefereeProcess) (v : ProtocolState) (n : SharedMatch) (e : Entry) (inv : FencedInv m) → RefereeGoes m p v n
-    → v ≡ with_entry (seen_by_referee m p) e → IsInOrder m (referee_process (with_entry (seen_by_referee m p) e).referee p.last_save) → FencedInv n
-grows m p v n e inv h is ok =
+grows : {earlier : Earlier} (m : SharedMatch) (p : RefereeProcess) (v : ProtocolState) (n : SharedMatch) (e : Entry) (inv : FencedInv earlier m) → RefereeGoes m p v n
+    → v ≡ with_entry (seen_by_referee m p) e → IsInOrder m (referee_process (with_entry (seen_by_referee m p) e).referee p.last_save) → FencedInv earlier n
+grows {earlier} m p v n e inv h is ok =
     quiet m p v n inv h (ap (λ (x : ProtocolState). x.sent) is)
     (subst (λ (x : ProtocolState). IsInOrder m (referee_process x.referee p.last_save)) (sym is) ok)
 
-in_order : (m : SharedMatch) (p : RefereeProcess) (v : ProtocolState) (n : SharedMatch) → FencedInv m → RefereeGoes m p v n → IsInOrder m p
-in_order m p v n inv h = inv.referees p (was_in m.referees p (referee_process v.referee p.last_save ∷ []) h.0 h.1)
+in_order : {earlier : Earlier} (m : SharedMatch) (p : RefereeProcess) (v : ProtocolState) (n : SharedMatch) → FencedInv earlier m → RefereeGoes m p v n → IsInOrder m p
+in_order {earlier} m p v n inv h = inv.referees p (was_in m.referees p (referee_process v.referee p.last_save ∷ []) h.0 h.1)
 
-pub due : (m : SharedMatch) (p : RefereeProcess) (word : ℕ) (o : Outcome) (v : ProtocolState) (n : SharedMatch) → FencedInv m
-    → DueStep (seen_by_referee m p) word o v → RefereeGoes m p v n → FencedInv n
-due m p word (outcomes.Due (Ok k)) v n inv h g =
+pub due : {earlier : Earlier} (m : SharedMatch) (p : RefereeProcess) (word : ℕ) (o : Outcome) (v : ProtocolState) (n : SharedMatch) → FencedInv earlier m
+    → DueStep (seen_by_referee m p) word o v → RefereeGoes m p v n → FencedInv earlier n
+due {earlier} m p word (outcomes.Due (Ok k)) v n inv h g =
     let ok = in_order m p v n inv g in
     grows m p v n h.0 inv g h.2
     (pushes m p h.0 ok h.1.1 (λ is.
     step_keeps (seen_by_referee m p) (events.Due word) (outcomes.Due (Ok k)) (with_entry (seen_by_referee m p) h.0) (as_newest m p inv ok is) (h.0, h.1, refl, h.3)))
-due m p word (outcomes.Due (Err why)) v n inv h g = stays m p v n inv g h.1
-due m p word _ v n inv h g = absurd h
+due {earlier} m p word (outcomes.Due (Err why)) v n inv h g = stays m p v n inv g h.1
+due {earlier} m p word _ v n inv h g = absurd h
 
 -- ---- what it sends is settled
 
-shows : (m : SharedMatch) (p : RefereeProcess) (inv : FencedInv m) → IsInOrder m p → (x : Packet) → IsOfSaved (seen_by_referee m p) x → IsSound (at_rest m) x × IsEver (ever_of m inv) x
-shows m p inv ok (packet.Entries id rules start list) h = ((h.0, prefix_run (take p.saved p.log) (ready m) start list ok.told h.1), tt)
-shows m p inv ok (packet.Want id rules sender held) h = absurd h
-shows m p inv ok (packet.Claim id rules sender number a) h = absurd h
+shows : {earlier : Earlier} (m : SharedMatch) (p : RefereeProcess) (inv : FencedInv earlier m) → IsInOrder m p → (x : Packet) → IsOfSaved (seen_by_referee m p) x → IsSound (at_rest m) x × IsEver (ever_of m inv) x
+shows {earlier} m p inv ok (packet.Entries id rules start list) h = ((h.0, prefix_run (take p.saved p.log) (ready m) start list ok.told h.1), tt)
+shows {earlier} m p inv ok (packet.Want id rules sender held) h = absurd h
+shows {earlier} m p inv ok (packet.Claim id rules sender number a) h = absurd h
 
-pub shown_may : (m : SharedMatch) (p : RefereeProcess) (inv : FencedInv m) → IsInOrder m p → (d : Datagram) → ShowsSaved (seen_by_referee m p) d → MayGo m inv d
-shown_may m p inv ok d h = let s = shows m p inv ok h.0 h.2 in (h.0, h.1.1, s.0, s.1)
+pub shown_may : {earlier : Earlier} (m : SharedMatch) (p : RefereeProcess) (inv : FencedInv earlier m) → IsInOrder m p → (d : Datagram) → ShowsSaved (seen_by_referee m p) d → MayGo m inv d
+shown_may {earlier} m p inv ok d h = let s = shows m p inv ok h.0 h.2 in (h.0, h.1.1, s.0, s.1)
 
-sends_some : (m : SharedMatch) (p : RefereeProcess) (v : ProtocolState) (n : SharedMatch) (may : Datagram → Type 0) (most : ℕ) (inv : FencedInv m) → RefereeGoes m p v n
-    → ((d : Datagram) → may d → ShowsSaved (seen_by_referee m p) d) → SendsAtMost may most (seen_by_referee m p) v → FencedInv n
-sends_some m p v n may most inv g f h =
+sends_some : {earlier : Earlier} (m : SharedMatch) (p : RefereeProcess) (v : ProtocolState) (n : SharedMatch) (may : Datagram → Type 0) (most : ℕ) (inv : FencedInv earlier m) → RefereeGoes m p v n
+    → ((d : Datagram) → may d → ShowsSaved (seen_by_referee m p) d) → SendsAtMost may most (seen_by_referee m p) v → FencedInv earlier n
+sends_some {earlier} m p v n may most inv g f h =
     let ok = in_order m p v n inv g in
     goes m p v n inv g h.out (ap (λ (x : ProtocolState). x.sent) h.after)
     (All-weaker may (MayGo m inv) (λ d k. shown_may m p inv ok d (f d k)) h.out h.each)
     (subst (λ (x : ProtocolState). RefereeProcessOk m.id m.terms (m.sent ++ h.out) (ready m) m.referee (referee_process x.referee p.last_save)) (sym h.after)
     (referee_process_more m.id m.terms m.sent h.out (ready m) m.referee p ok))
 
-pub ticks : (m : SharedMatch) (p : RefereeProcess) (o : Outcome) (v : ProtocolState) (n : SharedMatch) → FencedInv m
-    → SendsOnTick (λ d. Exists (seen_by_referee m p) d.to × ShowsSaved (seen_by_referee m p) d) 2 (seen_by_referee m p) o v → RefereeGoes m p v n → FencedInv n
-ticks m p (outcomes.Sent k) v n inv h g = sends_some m p v n _ 2 inv g (λ d k. k.1) h.0
-ticks m p outcomes.LinkFault v n inv h g = sends_some m p v n _ 2 inv g (λ d k. k.1) h
-ticks m p outcomes.Memory v n inv h g = sends_some m p v n _ 2 inv g (λ d k. k.1) h
-ticks m p _ v n inv h g = absurd h
+pub ticks : {earlier : Earlier} (m : SharedMatch) (p : RefereeProcess) (o : Outcome) (v : ProtocolState) (n : SharedMatch) → FencedInv earlier m
+    → SendsOnTick (λ d. Exists (seen_by_referee m p) d.to × ShowsSaved (seen_by_referee m p) d) 2 (seen_by_referee m p) o v → RefereeGoes m p v n → FencedInv earlier n
+ticks {earlier} m p (outcomes.Sent k) v n inv h g = sends_some m p v n _ 2 inv g (λ d k. k.1) h.0
+ticks {earlier} m p outcomes.LinkFault v n inv h g = sends_some m p v n _ 2 inv g (λ d k. k.1) h
+ticks {earlier} m p outcomes.Memory v n inv h g = sends_some m p v n _ 2 inv g (λ d k. k.1) h
+ticks {earlier} m p _ v n inv h g = absurd h
 
 -- ---- what it takes
 
@@ -152,15 +153,15 @@ accepted_next m log word (packet.Claim id rules sender number a) e h = h.4
 accepted_next m log word (packet.Want id rules sender held) e h = absurd h
 accepted_next m log word (packet.Entries id rules start list) e h = absurd h
 
-replies : (m : SharedMatch) (p : RefereeProcess) (word : ℕ) (x : Packet) (t : TakeOutcome) (v : ProtocolState) (n : SharedMatch) → FencedInv m → WasSent m.sent 0 x
-    → ReplyStep (seen_by_referee m p) word x t v → RefereeGoes m p v n → FencedInv n
-replies m p word x (takes.Accepted k) v n inv came h g =
+replies : {earlier : Earlier} (m : SharedMatch) (p : RefereeProcess) (word : ℕ) (x : Packet) (t : TakeOutcome) (v : ProtocolState) (n : SharedMatch) → FencedInv earlier m → WasSent m.sent 0 x
+    → ReplyStep (seen_by_referee m p) word x t v → RefereeGoes m p v n → FencedInv earlier n
+replies {earlier} m p word x (takes.Accepted k) v n inv came h g =
     let ok = in_order m p v n inv g in
     grows m p v n h.0 inv g h.2
     (pushes m p h.0 ok (accepted_next m p.log word x h.0 h.1) (λ is.
     step_keeps (seen_by_referee m p) (events.Take 0 0 word) (outcomes.Took (takes.Accepted k)) (with_entry (seen_by_referee m p) h.0) (as_newest m p inv ok is)
     (x, came, (h.0, h.1, refl, h.3))))
-replies m p word x (takes.Answer to answer) v n inv came h g =
+replies {earlier} m p word x (takes.Answer to answer) v n inv came h g =
     let ok = in_order m p v n inv g in
     let d = h.2.0 in
     let shown : MayGo m inv d = let s = shows m p inv ok answer h.1 in (answer, (h.2.1).1, s.0, s.1) in
@@ -168,17 +169,17 @@ replies m p word x (takes.Answer to answer) v n inv came h g =
     (All-cons (MayGo m inv) d [] shown (All-nil (MayGo m inv)))
     (subst (λ (y : ProtocolState). RefereeProcessOk m.id m.terms (m.sent ++ d ∷ []) (ready m) m.referee (referee_process y.referee p.last_save)) (sym h.2.2)
     (referee_process_more m.id m.terms m.sent (d ∷ []) (ready m) m.referee p ok))
-replies m p word x takes.Memory v n inv came h g = stays m p v n inv g h
-replies m p word x _ v n inv came h g = stays m p v n inv g h.1
+replies {earlier} m p word x takes.Memory v n inv came h g = stays m p v n inv g h
+replies {earlier} m p word x _ v n inv came h g = stays m p v n inv g h.1
 
-pub takes_packet : (m : SharedMatch) (p : RefereeProcess) (word : ℕ) (o : Outcome) (v : ProtocolState) (n : SharedMatch) → FencedInv m
-    → RefereeTakeStep (seen_by_referee m p) word o v → RefereeGoes m p v n → FencedInv n
-takes_packet m p word (outcomes.Took t) v n inv h g = replies m p word h.0 t v n inv h.1 h.2 g
-takes_packet m p word outcomes.NoDatagram v n inv h g = stays m p v n inv g h
-takes_packet m p word (outcomes.NotAPacket why) v n inv h g = stays m p v n inv g h
-takes_packet m p word outcomes.LinkFault v n inv h g = sends_some m p v n _ 1 inv g (λ d k. k) h
-takes_packet m p word outcomes.Memory v n inv h g = sends_some m p v n _ 1 inv g (λ d k. k) h
-takes_packet m p word _ v n inv h g = absurd h
+pub takes_packet : {earlier : Earlier} (m : SharedMatch) (p : RefereeProcess) (word : ℕ) (o : Outcome) (v : ProtocolState) (n : SharedMatch) → FencedInv earlier m
+    → RefereeTakeStep (seen_by_referee m p) word o v → RefereeGoes m p v n → FencedInv earlier n
+takes_packet {earlier} m p word (outcomes.Took t) v n inv h g = replies m p word h.0 t v n inv h.1 h.2 g
+takes_packet {earlier} m p word outcomes.NoDatagram v n inv h g = stays m p v n inv g h
+takes_packet {earlier} m p word (outcomes.NotAPacket why) v n inv h g = stays m p v n inv g h
+takes_packet {earlier} m p word outcomes.LinkFault v n inv h g = sends_some m p v n _ 1 inv g (λ d k. k) h
+takes_packet {earlier} m p word outcomes.Memory v n inv h g = sends_some m p v n _ 1 inv g (λ d k. k) h
+takes_packet {earlier} m p word _ v n inv h g = absurd h
 
 -- ---- saving: what the slots restore is as before, or the next save, whose entries go on
 
@@ -223,17 +224,18 @@ other m k base h p ok = record {
         }
     newest (inr g) is = let l : p.last_save ≡ save_in k.restorable = is in absurd (omega (ok.old, g.0, l, arith))
 
-kept_moves : (m : SharedMatch) (k : Stored) (rs : List RefereeProcess) → FencedInv m → Inv (at_rest (record m { referee = k })) → Moves m.referee k
+kept_moves : {earlier : Earlier} (m : SharedMatch) (k : Stored) (rs : List RefereeProcess) → FencedInv earlier m → Inv (at_rest (record m { referee = k })) → Moves m.referee k
     → ((p : RefereeProcess) → Contains rs p → RefereeProcessOk m.id m.terms m.sent (ready (record m { referee = k })) k p)
-    → FencedInv (record m { referees = rs; referee = k })
-kept_moves m k rs inv base h all = record {
+    → FencedInv earlier (record m { referees = rs; referee = k })
+kept_moves {earlier} m k rs inv base h all = record {
   base = base;
   referees = all;
+  begun = λ found w. other m k base h (referee_from found) (inv.begun found w);
   seats = seats;
   watching = λ p c. let w = inv.watching p c in (w.0, prefix_trans p.log (ready m) (ready (record m { referee = k })) w.1 (moves_ready m k h));
 }
   where
-    seats : (q : Player) → SeatsOk m.id m.terms m.sent (ready (record m { referee = k })) q (stored_of (record m { referees = rs; referee = k }) q) (seats_of (record m { referees = rs; referee = k }) q)
+    seats : (q : Player) → SeatsOk earlier m.id m.terms m.sent (ready (record m { referee = k })) q (stored_of (record m { referees = rs; referee = k }) q) (seats_of (record m { referees = rs; referee = k }) q)
     seats X = seats_more m.id m.terms m.sent (ready m) (ready (record m { referee = k })) X m.x m.xs (moves_ready m k h) (inv.seats X)
     seats O = seats_more m.id m.terms m.sent (ready m) (ready (record m { referee = k })) O m.o m.os (moves_ready m k h) (inv.seats O)
 
@@ -249,14 +251,14 @@ rests m p r inv =
     step_keeps (record (seen_by_referee m p) { referee = r }) (events.Restart 0) outcomes.Restarted
     (at_rest (record m { referee = record { slots = r.slots; restorable = r.restorable } })) inv refl
 
-saved_log_of : (m : SharedMatch) (p : RefereeProcess) → FencedInv m → IsInOrder m p → IsNewest m.referee.restorable p.last_save → IsPrefix (settled m) p.log
-saved_log_of m p inv ok is =
+saved_log_of : {earlier : Earlier} (m : SharedMatch) (p : RefereeProcess) → FencedInv earlier m → IsInOrder m p → IsNewest m.referee.restorable p.last_save → IsPrefix (settled m) p.log
+saved_log_of {earlier} m p inv ok is =
     subst (λ (l : List Entry). IsPrefix l p.log) (sym (ok.newest is).restorable) (prefix_take p.saved p.log)
 
-written : (m : SharedMatch) (p : RefereeProcess) (number : ℕ) (k : Stored) (rs : List RefereeProcess) → FencedInv m → IsInOrder m p → IsNewest m.referee.restorable p.last_save
+written : {earlier : Earlier} (m : SharedMatch) (p : RefereeProcess) (number : ℕ) (k : Stored) (rs : List RefereeProcess) → FencedInv earlier m → IsInOrder m p → IsNewest m.referee.restorable p.last_save
     → number ≡ next_number m.referee.restorable → SaveWritten (to_save_referee (seen_by_referee m p)) m.referee.slots k.slots k.restorable
-    → Becomes m.referees p (record { log = p.log; saved = length p.log; last_save = number } ∷ []) rs → FencedInv (record m { referees = rs; referee = k })
-written m p number k rs inv ok is next h b =
+    → Becomes m.referees p (record { log = p.log; saved = length p.log; last_save = number } ∷ []) rs → FencedInv earlier (record m { referees = rs; referee = k })
+written {earlier} m p number k rs inv ok is next h b =
     kept_moves m k rs inv base moves
     (each_becomes (RefereeProcessOk m.id m.terms m.sent (ready (record m { referee = k })) k) m.referees p (new ∷ []) rs b
     (λ x c. other m k base moves x (inv.referees x c))
@@ -289,10 +291,10 @@ written m p number k rs inv ok is next h b =
       newest = λ e. after.referee;
     }
 
-torn : (m : SharedMatch) (p : RefereeProcess) (k : Stored) (rs : List RefereeProcess) → FencedInv m → IsInOrder m p → IsNewest m.referee.restorable p.last_save
+torn : {earlier : Earlier} (m : SharedMatch) (p : RefereeProcess) (k : Stored) (rs : List RefereeProcess) → FencedInv earlier m → IsInOrder m p → IsNewest m.referee.restorable p.last_save
     → SaveTorn (to_save_referee (seen_by_referee m p)) m.referee.slots k.slots k.restorable
-    → Becomes m.referees p [] rs → FencedInv (record m { referees = rs; referee = k })
-torn m p k rs inv ok is h b =
+    → Becomes m.referees p [] rs → FencedInv earlier (record m { referees = rs; referee = k })
+torn {earlier} m p k rs inv ok is h b =
     kept_moves m k rs inv base moves
     (each_becomes (RefereeProcessOk m.id m.terms m.sent (ready (record m { referee = k })) k) m.referees p [] rs b
     (λ x c. other m k base moves x (inv.referees x c)) (λ x c. absurd (none_in x c)))
@@ -312,53 +314,54 @@ torn m p k rs inv ok is h b =
         of (inr e) = inr (ap save_in e, subst (λ (l : List Entry). IsPrefix (settled m) l) (sym (ap entries_in e)) (saved_log_of m p inv ok is))
 
 -- the process is gone
-gone : (m : SharedMatch) (p : RefereeProcess) (rs : List RefereeProcess) → FencedInv m → Becomes m.referees p [] rs → FencedInv (record m { referees = rs })
-gone m p rs inv b = record {
+gone : {earlier : Earlier} (m : SharedMatch) (p : RefereeProcess) (rs : List RefereeProcess) → FencedInv earlier m → Becomes m.referees p [] rs → FencedInv earlier (record m { referees = rs })
+gone {earlier} m p rs inv b = record {
   base = inv.base;
   referees = each_becomes (IsInOrder m) m.referees p [] rs b inv.referees (λ x c. absurd (none_in x c));
+  begun = inv.begun;
   seats = seats;
   watching = inv.watching;
 }
   where
-    seats : (q : Player) → SeatsOk m.id m.terms m.sent (ready m) q (stored_of (record m { referees = rs }) q) (seats_of (record m { referees = rs }) q)
+    seats : (q : Player) → SeatsOk earlier m.id m.terms m.sent (ready m) q (stored_of (record m { referees = rs }) q) (seats_of (record m { referees = rs }) q)
     seats X = inv.seats X
     seats O = inv.seats O
 
 -- the same slots, whatever state they are read from
-of_state : (m : SharedMatch) (v u : ProtocolState) (rs : List RefereeProcess) → v ≡ u
-    → FencedInv (record m { referees = rs; referee = record { slots = u.referee.slots; restorable = u.referee.restorable } })
-    → FencedInv (record m { referees = rs; referee = record { slots = v.referee.slots; restorable = v.referee.restorable } })
-of_state m v u rs e h = subst (λ (x : ProtocolState). FencedInv (record m { referees = rs; referee = record { slots = x.referee.slots; restorable = x.referee.restorable } })) (sym e) h
+of_state : {earlier : Earlier} (m : SharedMatch) (v u : ProtocolState) (rs : List RefereeProcess) → v ≡ u
+    → FencedInv earlier (record m { referees = rs; referee = record { slots = u.referee.slots; restorable = u.referee.restorable } })
+    → FencedInv earlier (record m { referees = rs; referee = record { slots = v.referee.slots; restorable = v.referee.restorable } })
+of_state {earlier} m v u rs e h = subst (λ (x : ProtocolState). FencedInv earlier (record m { referees = rs; referee = record { slots = x.referee.slots; restorable = x.referee.restorable } })) (sym e) h
 
-pub saves : (m : SharedMatch) (p : RefereeProcess) (o : Outcome) (n : SharedMatch) → FencedInv m → RefereeSaves m p o n → FencedInv n
-saves m p (outcomes.Saved number) n inv h =
+pub saves : {earlier : Earlier} (m : SharedMatch) (p : RefereeProcess) (o : Outcome) (n : SharedMatch) → FencedInv earlier m → RefereeSaves m p o n → FencedInv earlier n
+saves {earlier} m p (outcomes.Saved number) n inv h =
     let s = (h.3).1 in
     let k : Stored = record { slots = s.0; restorable = s.1 } in
     let b : Becomes m.referees p (record { log = p.log; saved = length p.log; last_save = number } ∷ []) h.1 =
     subst (λ (x : ProtocolState). Becomes m.referees p (referee_process x.referee number ∷ []) h.1) s.3 h.4 in
     let ok = inv.referees p (was_in m.referees p (referee_process (h.0).referee number ∷ []) h.1 h.4) in
-    subst FencedInv (sym h.5) (of_state m h.0 (written_state m p k) h.1 s.3 (written m p number k h.1 inv ok h.2 (h.3).0 s.2 b))
-saves m p outcomes.SaveFault n inv h = at_place h.2
+    subst (FencedInv earlier) (sym h.5) (of_state m h.0 (written_state m p k) h.1 s.3 (written m p number k h.1 inv ok h.2 (h.3).0 s.2 b))
+saves {earlier} m p outcomes.SaveFault n inv h = at_place h.2
   where
     ok : IsInOrder m p
     ok = inv.referees p (was_in m.referees p [] h.0 h.1)
 
     at_place : (n ≡ record m { referees = h.0 })
         ⊎ ((v : ProtocolState) × IsNewest m.referee.restorable p.last_save × RefereeSaveStep (seen_by_referee m p) outcomes.SaveFault v
-        × (n ≡ record m { referees = h.0; referee = record { slots = v.referee.slots; restorable = v.referee.restorable } })) → FencedInv n
-    at_place (inl e) = subst FencedInv (sym e) (gone m p h.0 inv h.1)
+        × (n ≡ record m { referees = h.0; referee = record { slots = v.referee.slots; restorable = v.referee.restorable } })) → FencedInv earlier n
+    at_place (inl e) = subst (FencedInv earlier) (sym e) (gone m p h.0 inv h.1)
     at_place (inr g) =
         let s = g.2 in
         let k : Stored = record { slots = s.0; restorable = s.1 } in
-        subst FencedInv (sym g.3) (of_state m g.0 (torn_state m p k) h.0 s.3 (torn m p k h.0 inv ok g.1 s.2 h.1))
-saves m p outcomes.SavesSpent n inv h = subst FencedInv (sym h) inv
-saves m p outcomes.Memory n inv h = subst FencedInv (sym h) inv
-saves m p _ n inv h = absurd h
+        subst (FencedInv earlier) (sym g.3) (of_state m g.0 (torn_state m p k) h.0 s.3 (torn m p k h.0 inv ok g.1 s.2 h.1))
+saves {earlier} m p outcomes.SavesSpent n inv h = subst (FencedInv earlier) (sym h) inv
+saves {earlier} m p outcomes.Memory n inv h = subst (FencedInv earlier) (sym h) inv
+saves {earlier} m p _ n inv h = absurd h
 
 -- other processes, each in order
-pub with_referees : (m : SharedMatch) (rs : List RefereeProcess) → FencedInv m → ((p : RefereeProcess) → Contains rs p → IsInOrder m p) → FencedInv (record m { referees = rs })
-with_referees m rs inv all = record { base = inv.base; referees = all; seats = seats; watching = inv.watching }
+pub with_referees : {earlier : Earlier} (m : SharedMatch) (rs : List RefereeProcess) → FencedInv earlier m → ((p : RefereeProcess) → Contains rs p → IsInOrder m p) → FencedInv earlier (record m { referees = rs })
+with_referees {earlier} m rs inv all = record { base = inv.base; referees = all; begun = inv.begun; seats = seats; watching = inv.watching }
   where
-    seats : (q : Player) → SeatsOk m.id m.terms m.sent (ready m) q (stored_of (record m { referees = rs }) q) (seats_of (record m { referees = rs }) q)
+    seats : (q : Player) → SeatsOk earlier m.id m.terms m.sent (ready m) q (stored_of (record m { referees = rs }) q) (seats_of (record m { referees = rs }) q)
     seats X = inv.seats X
     seats O = inv.seats O

@@ -24,8 +24,8 @@ use Rattle.bg_wire.specs.Packets.PacketText.{IsPacket}
 use Rattle.bg_wire.specs.Parties.{party_of}
 use Rattle.bg_wire.specs.Entries.Codes.{first_watcher}
 use Rattle.bg_wire.specs.Saved.Restoring.{SlotsRestore}
-use Rattle.bg_wire.specs.Saved.SavedText.{SavedParts}
-use Rattle.bg_wire.specs.Saved.SlotLaws.{Slots, AreOfMatch}
+use Rattle.bg_wire.specs.Saved.SavedText.{SavedParts, parts_of}
+use Rattle.bg_wire.specs.Saved.SlotLaws.{Slots}
 use Rattle.bg_wire.specs.declared.faults.SaveRefusal.{SaveRefusal}
 use Rattle.bg_wire.specs.declared.faults.SaveRefusal.TheVariants as save_refusals
 use Rattle.bg_wire.specs.declared.packets.Datagram.{Datagram}
@@ -57,12 +57,13 @@ use Rattle.bg_world.specs.declared.events.Outcome.TheVariants as outcomes
 use Rattle.bg_world.proofs.Protocol.Invariant.{Inv}
 use Rattle.bg_world.proofs.Protocol.Saving.{SlotsOk}
 use Rattle.bg_world.proofs.Steps.Hands.{IsEmptyHand, fault, memory, nothing, no_packet, empty_hand, carries, grows_none, grows_one}
-use Rattle.bg_world.proofs.Steps.RestartCases.{IsReread, given, empty, not_read, no_memory, rereads}
 use Rattle.bg_world.proofs.Steps.SaveCases.{IsSaved, written, torn, spent, no_memory as save_no_memory, is_saved}
 use Rattle.bg_world.proofs.Steps.SendCases.{Went, sends_all, ticks_row}
-use Rattle.bg_fences.specs.SharedMatches.{SharedMatch, at_rest, seen_by_referee, begun_referee}
+use Rattle.bg_fences.specs.SharedMatches.{SharedMatch, at_rest, seen_by_referee}
 use Rattle.bg_fences.specs.ProcessCalls.{IsNewest}
 use Rattle.bg_fences.specs.SharedNodes.{IsFenced, IsNextAt, IsRefused, process_of_referee}
+use Rattle.bg_fences.proofs.Invariant.{referee_from}
+use Rattle.bg_fences.proofs.SlotReads.{IsFound, empty, finds, given, not_found}
 
 -- what a core knows beside its process: its match, and that its next save has a number
 pub record IsCoreOf (id : ℕ) (terms : Terms) (last_save : ℕ) (core : RefereeView) : Type 0 where
@@ -214,38 +215,29 @@ saves_to m last_save r keeper new o after fits ok same h (inr stale) = at h.0 h.
 
 -- ---- restarting
 
-pub data ComesBack (m : SharedMatch) (o : Outcome) (after : Option RefereeView) : Type 0 where
-  up : (r : RefereeView) → o ≡ outcomes.Restarted → after ≡ Some r → process_of_referee r ≡ begun_referee m.referee → IsCoreOf m.id m.terms (r.next_save - 1) r → ComesBack m o after
-  down : after ≡ None → ComesBack m o after
+pub data ComesBack (id : ℕ) (terms : Terms) (read : Slots) (after : Option RefereeView) : Type 0 where
+  up : (r : RefereeView) (found : Option SavedParts) → SlotsRestore read.zero read.one found → after ≡ Some r → process_of_referee r ≡ referee_from found → IsCoreOf id terms (r.next_save - 1) r
+      → ComesBack id terms read after
+  down : after ≡ None → ComesBack id terms read after
 
-pub restarts_to : (m : SharedMatch) (keeper new : KeeperView) (o : Outcome) (after : Option RefereeView) → SlotsOk m.id m.terms 0 m.referee.slots m.referee.restorable
-    → keeper.slots ≡ m.referee.slots → RestartCallsAt resumed_referee (fresh_referee m.id m.terms) ⊤ 0 m.id m.terms keeper o new after
-    → ComesBack m o after × (new.slots ≡ m.referee.slots)
-restarts_to m keeper new o after ok same h = (of read.0 h.2, read.1 ∙ same)
+pub restarts_to : (id : ℕ) (terms : Terms) (keeper new : KeeperView) (o : Outcome) (after : Option RefereeView)
+    → RestartCallsAt resumed_referee (fresh_referee id terms) ⊤ 0 id terms keeper o new after → ComesBack id terms keeper.slots after
+restarts_to id terms keeper new o after h = of (finds 0 id terms keeper new h.0 h.1) h.2
   where
-    read : IsReread m.referee.restorable h.0 × (new.slots ≡ keeper.slots)
-    read = rereads m.id m.terms 0 m.referee.restorable ⊤ tt keeper new h.0 (subst (λ (s : Slots). SlotsOk m.id m.terms 0 s m.referee.restorable) (sym same) ok) h.1
-
     number : (n : ℕ) → n + 1 - 1 ≡ n
     number n = omega arith
 
-    of : IsReread m.referee.restorable h.0 → ComesUp resumed_referee (fresh_referee m.id m.terms) h.0 o after → ComesBack m o after
-    of (given s e f) k =
-        let g = subst (λ (x : Result (Option Saved) Outcome). ComesUp resumed_referee (fresh_referee m.id m.terms) x o after) f k in
-        let of_match = subst (λ (x : Option SavedParts). AreOfMatch 0 m.id m.terms m.referee.slots x) e ok.of_match in
-        up (resumed_referee s) g.0 g.1
-        (ap (λ (n : ℕ). record { log = s.log.entries; saved = length s.log.entries; last_save = n }) (number s.save)
-        ∙ ap (λ (x : Option SavedParts). begun_referee (record { slots = m.referee.slots; restorable = x })) (sym e))
-        (record { log = (of_match.id, of_match.terms); numbered = omega arith })
-    of (empty e f) k =
-        let g = subst (λ (x : Result (Option Saved) Outcome). ComesUp resumed_referee (fresh_referee m.id m.terms) x o after) f k in
-        up (fresh_referee m.id m.terms) g.0 g.1
-        (ap (λ (x : Option SavedParts). begun_referee (record { slots = m.referee.slots; restorable = x })) (sym e))
-        (record { log = (refl, refl); numbered = omega arith })
-    of (not_read f) k =
-        let g = subst (λ (x : Result (Option Saved) Outcome). ComesUp resumed_referee (fresh_referee m.id m.terms) x o after) f k in down g.1
-    of (no_memory f) k =
-        let g = subst (λ (x : Result (Option Saved) Outcome). ComesUp resumed_referee (fresh_referee m.id m.terms) x o after) f k in down g.1
+    of : IsFound 0 id terms keeper.slots h.0 → ComesUp resumed_referee (fresh_referee id terms) h.0 o after → ComesBack id terms keeper.slots after
+    of (given s restore is f) k =
+        let g = subst (λ (x : Result (Option Saved) Outcome). ComesUp resumed_referee (fresh_referee id terms) x o after) f k in
+        up (resumed_referee s) (Some (parts_of s)) restore g.1
+        (ap (λ (n : ℕ). record { log = s.log.entries; saved = length s.log.entries; last_save = n }) (number s.save))
+        (record { log = (is.id, is.terms); numbered = omega arith })
+    of (empty restore f) k =
+        let g = subst (λ (x : Result (Option Saved) Outcome). ComesUp resumed_referee (fresh_referee id terms) x o after) f k in
+        up (fresh_referee id terms) None restore g.1 refl (record { log = (refl, refl); numbered = omega arith })
+    of (not_found why f) k =
+        let g = subst (λ (x : Result (Option Saved) Outcome). ComesUp resumed_referee (fresh_referee id terms) x o after) f k in down g.1
 
 -- the sessions of a referee are not in the state
 other_sessions : (id : ℕ) (terms : Terms) (last_save : ℕ) (r r' : RefereeView) → IsCoreOf id terms last_save (with_sessions_of r r') → IsCoreOf id terms last_save r'

@@ -38,37 +38,38 @@ use Rattle.bg_world.proofs.Protocol.Saving.{SlotsOk, after_whole, after_torn}
 use Rattle.bg_fences.specs.SharedMatches.{SeatProcess, Stored, SharedMatch, stored_of, seats_of, with_stored, with_seats, settled, at_rest, seen_by_seat, seat_as_seen, seat_process, Becomes}
 use Rattle.bg_fences.specs.ProcessCalls.{IsNewest, SeatGoes, SeatSaves}
 use Rattle.bg_fences.proofs.Lists.{was_in, each_becomes, of_one, none_in}
-use Rattle.bg_fences.proofs.Invariant.{FencedInv, SeatProcessOk, SeatsOk, EverKept, ready, ready_all, claims_kept}
+use Rattle.bg_fences.proofs.Invariant.{Earlier, FencedInv, SeatProcessOk, SeatsOk, EverKept, claims_kept, ready, ready_all, seat_from}
 use Rattle.bg_fences.proofs.Sending.{ever_of, MayGo, sends_all}
 use Rattle.bg_fences.proofs.Claims.{ever_with, with_old, with_new, ever_next}
 
 -- ---- other processes of a seat
 
-pub change_seats : (m : SharedMatch) (q : Player) (fs : List SeatProcess) → FencedInv m → SeatsOk m.id m.terms m.sent (ready m) q (stored_of m q) fs → FencedInv (with_seats m q fs)
-change_seats m X fs inv new = record { base = inv.base; referees = inv.referees; seats = seats; watching = inv.watching }
+pub change_seats : {earlier : Earlier} (m : SharedMatch) (q : Player) (fs : List SeatProcess) → FencedInv earlier m → SeatsOk earlier m.id m.terms m.sent (ready m) q (stored_of m q) fs → FencedInv earlier (with_seats m q fs)
+change_seats {earlier} m X fs inv new = record { base = inv.base; referees = inv.referees; begun = inv.begun; seats = seats; watching = inv.watching }
   where
-    seats : (q : Player) → SeatsOk m.id m.terms m.sent (ready m) q (stored_of (record m { xs = fs }) q) (seats_of (record m { xs = fs }) q)
+    seats : (q : Player) → SeatsOk earlier m.id m.terms m.sent (ready m) q (stored_of (record m { xs = fs }) q) (seats_of (record m { xs = fs }) q)
     seats X = new
     seats O = inv.seats O
-change_seats m O fs inv new = record { base = inv.base; referees = inv.referees; seats = seats; watching = inv.watching }
+change_seats {earlier} m O fs inv new = record { base = inv.base; referees = inv.referees; begun = inv.begun; seats = seats; watching = inv.watching }
   where
-    seats : (q : Player) → SeatsOk m.id m.terms m.sent (ready m) q (stored_of (record m { os = fs }) q) (seats_of (record m { os = fs }) q)
+    seats : (q : Player) → SeatsOk earlier m.id m.terms m.sent (ready m) q (stored_of (record m { os = fs }) q) (seats_of (record m { os = fs }) q)
     seats X = inv.seats X
     seats O = new
 
-seats_become : (id : ℕ) (terms : Terms) (sent : List Datagram) (S : List Entry) (q : Player) (k : Stored) (fs : List SeatProcess) (f : SeatProcess) (after news : List SeatProcess)
-    → (ok : SeatsOk id terms sent S q k fs) → Becomes fs f after news → ((x : SeatProcess) → Contains after x → SeatProcessOk id terms sent S q k ok.ever x) → SeatsOk id terms sent S q k news
-seats_become id terms sent S q k fs f after news ok b new = record {
+seats_become : {earlier : Earlier} (id : ℕ) (terms : Terms) (sent : List Datagram) (S : List Entry) (q : Player) (k : Stored) (fs : List SeatProcess) (f : SeatProcess) (after news : List SeatProcess)
+    → (ok : SeatsOk earlier id terms sent S q k fs) → Becomes fs f after news → ((x : SeatProcess) → Contains after x → SeatProcessOk id terms sent S q k ok.ever x) → SeatsOk earlier id terms sent S q k news
+seats_become {earlier} id terms sent S q k fs f after news ok b new = record {
   ever = ok.ever;
   kept = ok.kept;
   in_slots = ok.in_slots;
   was_sent = ok.was_sent;
   each = each_becomes (SeatProcessOk id terms sent S q k ok.ever) fs f after news b ok.each new;
+  begun = ok.begun;
 }
 
-one_becomes : (m : SharedMatch) (q : Player) (f g : SeatProcess) (fs : List SeatProcess) → (inv : FencedInv m) → Becomes (seats_of m q) f (g ∷ []) fs
-    → SeatProcessOk m.id m.terms m.sent (ready m) q (stored_of m q) (ever_of m inv q) g → FencedInv (with_seats m q fs)
-one_becomes m q f g fs inv b ok =
+one_becomes : {earlier : Earlier} (m : SharedMatch) (q : Player) (f g : SeatProcess) (fs : List SeatProcess) → (inv : FencedInv earlier m) → Becomes (seats_of m q) f (g ∷ []) fs
+    → SeatProcessOk m.id m.terms m.sent (ready m) q (stored_of m q) (ever_of m inv q) g → FencedInv earlier (with_seats m q fs)
+one_becomes {earlier} m q f g fs inv b ok =
     change_seats m q fs inv (seats_become m.id m.terms m.sent (ready m) q (stored_of m q) (seats_of m q) f (g ∷ []) fs (inv.seats q) b
     (of_one (SeatProcessOk m.id m.terms m.sent (ready m) q (stored_of m q) (ever_of m inv q)) g ok))
 
@@ -86,9 +87,9 @@ with_log id terms sent S q f log s p = record {
   claims = s.claims;
 }
 
-pub takes_packet : (m : SharedMatch) (q : Player) (f : SeatProcess) (o : Outcome) (log : List Entry) (fs : List SeatProcess) → FencedInv m
-    → FollowerTakeStep m.id m.terms m.sent (party_of q) o f.log log → Becomes (seats_of m q) f (record f { log = log } ∷ []) fs → FencedInv (with_seats m q fs)
-takes_packet m q f o log fs inv h b =
+pub takes_packet : {earlier : Earlier} (m : SharedMatch) (q : Player) (f : SeatProcess) (o : Outcome) (log : List Entry) (fs : List SeatProcess) → FencedInv earlier m
+    → FollowerTakeStep m.id m.terms m.sent (party_of q) o f.log log → Becomes (seats_of m q) f (record f { log = log } ∷ []) fs → FencedInv earlier (with_seats m q fs)
+takes_packet {earlier} m q f o log fs inv h b =
     let ok = (inv.seats q).each f (was_in (seats_of m q) f (record f { log = log } ∷ []) fs b) in
     let p = take_at_follower (at_rest m) (party_of q) o f.log log inv.base ok.log h in
     one_becomes m q f (record f { log = log }) fs inv b
@@ -119,10 +120,10 @@ abbrev chosen : SeatState → Action → SeatState
 chosen f a = record f { claim = Some (length f.log + 1, a); claim_saved = false }
 
 -- one that counts from the newest save is the seat of a state of the protocol
-pub as_newest : (m : SharedMatch) (q : Player) (f : SeatProcess) (inv : FencedInv m) → SeatProcessOk m.id m.terms m.sent (ready m) q (stored_of m q) (ever_of m inv q) f
+pub as_newest : {earlier : Earlier} (m : SharedMatch) (q : Player) (f : SeatProcess) (inv : FencedInv earlier m) → SeatProcessOk m.id m.terms m.sent (ready m) q (stored_of m q) (ever_of m inv q) f
     → IsNewest (stored_of m q).restorable f.last_save → Inv (seen_by_seat m q f)
-as_newest m X f inv ok is = seat_steps (at_rest m) X (seat_as_seen m.x f) inv.base (ok.newest is)
-as_newest m O f inv ok is = seat_steps (at_rest m) O (seat_as_seen m.o f) inv.base (ok.newest is)
+as_newest {earlier} m X f inv ok is = seat_steps (at_rest m) X (seat_as_seen m.x f) inv.base (ok.newest is)
+as_newest {earlier} m O f inv ok is = seat_steps (at_rest m) O (seat_as_seen m.o f) inv.base (ok.newest is)
 
 chosen_ok : (m : SharedMatch) (q : Player) (f : SeatProcess) (a : Action) → Inv (seen_by_seat m q f) → CanClaim m.terms q f.log f.claim a
     → SeatOk m.id m.terms m.sent (ready m) q (chosen (seat_as_seen (stored_of m q) f) a)
@@ -133,9 +134,9 @@ chosen_ok m O f a inv h =
     let new = chosen (seat_as_seen m.o f) a in
     (step_keeps (seen_by_seat m O f) (events.Choose O a) (outcomes.Chose (Ok (length f.log + 1))) (record (at_rest m) { o = new }) inv (new, (h, refl, refl), refl)).o
 
-pub chooses : (m : SharedMatch) (q : Player) (f : SeatProcess) (a : Action) (o : Outcome) (new : SeatState) (fs : List SeatProcess) → FencedInv m
-    → ChooseStep m.terms q a o (seat_as_seen (stored_of m q) f) new → Becomes (seats_of m q) f (seat_process new f.last_save ∷ []) fs → FencedInv (with_seats m q fs)
-chooses m q f a (outcomes.Chose (Ok n)) new fs inv h b =
+pub chooses : {earlier : Earlier} (m : SharedMatch) (q : Player) (f : SeatProcess) (a : Action) (o : Outcome) (new : SeatState) (fs : List SeatProcess) → FencedInv earlier m
+    → ChooseStep m.terms q a o (seat_as_seen (stored_of m q) f) new → Becomes (seats_of m q) f (seat_process new f.last_save ∷ []) fs → FencedInv earlier (with_seats m q fs)
+chooses {earlier} m q f a (outcomes.Chose (Ok n)) new fs inv h b =
     let ok = (inv.seats q).each f (was_in (seats_of m q) f (seat_process new f.last_save ∷ []) fs b) in
     let core = seat_as_seen (stored_of m q) f in
     let is : new ≡ chosen core a = h.2 ∙ ap (λ (i : ℕ). record core { claim = Some (i, a); claim_saved = false }) h.1 in
@@ -148,28 +149,28 @@ chooses m q f a (outcomes.Chose (Ok n)) new fs inv h b =
       was_saved = λ e. cc;
       newest = λ k. chosen_ok m q f a (as_newest m q f inv ok k) h.0;
     }))
-chooses m q f a (outcomes.Chose (Err why)) new fs inv h b =
+chooses {earlier} m q f a (outcomes.Chose (Err why)) new fs inv h b =
     let ok = (inv.seats q).each f (was_in (seats_of m q) f (seat_process new f.last_save ∷ []) fs b) in
     one_becomes m q f (seat_process new f.last_save) fs inv b
     (subst (λ (x : SeatState). SeatProcessOk m.id m.terms m.sent (ready m) q (stored_of m q) (ever_of m inv q) (seat_process x f.last_save)) (sym h.1) ok)
-chooses m q f a _ new fs inv h b = absurd h
+chooses {earlier} m q f a _ new fs inv h b = absurd h
 
 -- ---- sending
 
 pub within_ready : (m : SharedMatch) (log : List Entry) → IsPrefix log (ready m) → length log ≤ length (settled m)
 within_ready m log p = let k = prefix_length log (ready m) p in let l : length (ready m) ≡ length (settled m) = ap length (ready_all m) in omega (k, l, arith)
 
-pub want_goes : (m : SharedMatch) (inv : FencedInv m) (d : Datagram) (party : ℕ) (log : List Entry) → Exists (at_rest m) party → IsPrefix log (ready m) → Carries d 0 (want_packet m.id m.terms party log) → MayGo m inv d
-want_goes m inv d party log there p c = (want_packet m.id m.terms party log, c.1, ((refl, refl), there, within_ready m log p), tt)
+pub want_goes : {earlier : Earlier} (m : SharedMatch) (inv : FencedInv earlier m) (d : Datagram) (party : ℕ) (log : List Entry) → Exists (at_rest m) party → IsPrefix log (ready m) → Carries d 0 (want_packet m.id m.terms party log) → MayGo m inv d
+want_goes {earlier} m inv d party log there p c = (want_packet m.id m.terms party log, c.1, ((refl, refl), there, within_ready m log p), tt)
 
 there : (m : SharedMatch) (q : Player) → Exists (at_rest m) (party_of q)
 there m X = omega arith
 there m O = omega arith
 
-seat_goes : (m : SharedMatch) (q : Player) (inv : FencedInv m) (log : List Entry) (claim : Option (ℕ × Action)) (is_saved : Bool) (d : Datagram) → IsPrefix log (ready m)
+seat_goes : {earlier : Earlier} (m : SharedMatch) (q : Player) (inv : FencedInv earlier m) (log : List Entry) (claim : Option (ℕ × Action)) (is_saved : Bool) (d : Datagram) → IsPrefix log (ready m)
     → LegalClaim m.terms (ready m) q claim → (is_saved ≡ true → (n : ℕ) (a : Action) → claim ≡ Some (n, a) → Contains (ever_of m inv q) (n, a))
     → Carries d 0 (seat_packet m.id m.terms (party_of q) log claim is_saved) → MayGo m inv d
-seat_goes m q inv log claim is_saved d p legal was c = at_claim claim is_saved legal was c
+seat_goes {earlier} m q inv log claim is_saved d p legal was c = at_claim claim is_saved legal was c
   where
     want : Carries d 0 (want_packet m.id m.terms (party_of q) log) → MayGo m inv d
     want k = want_goes m inv d (party_of q) log (there m q) p k
@@ -189,50 +190,50 @@ seat_goes m q inv log claim is_saved d p legal was c = at_claim claim is_saved l
 abbrev pub MaySay : SharedMatch → Player → SeatProcess → Datagram → Type 0
 MaySay m q f d = Carries d 0 (seat_packet m.id m.terms (party_of q) f.log f.claim f.claim_saved)
 
-says : (m : SharedMatch) (q : Player) (f : SeatProcess) (inv : FencedInv m) → SeatProcessOk m.id m.terms m.sent (ready m) q (stored_of m q) (ever_of m inv q) f
+says : {earlier : Earlier} (m : SharedMatch) (q : Player) (f : SeatProcess) (inv : FencedInv earlier m) → SeatProcessOk m.id m.terms m.sent (ready m) q (stored_of m q) (ever_of m inv q) f
     → (out : List Datagram) → All (MaySay m q f) out → All (MayGo m inv) out
-says m q f inv ok out each =
+says {earlier} m q f inv ok out each =
     All-weaker (MaySay m q f) (MayGo m inv) (λ d c. seat_goes m q inv f.log f.claim f.claim_saved d ok.log ok.legal ok.was_saved c) out each
 
-sends_some : (m : SharedMatch) (q : Player) (f : SeatProcess) (v : ProtocolState) (n : SharedMatch) → FencedInv m → SeatGoes m q f v n → SendsAtMost (MaySay m q f) 1 (seen_by_seat m q f) v → FencedInv n
-sends_some m X f v n inv g h =
+sends_some : {earlier : Earlier} (m : SharedMatch) (q : Player) (f : SeatProcess) (v : ProtocolState) (n : SharedMatch) → FencedInv earlier m → SeatGoes m q f v n → SendsAtMost (MaySay m q f) 1 (seen_by_seat m q f) v → FencedInv earlier n
+sends_some {earlier} m X f v n inv g h =
     let b : Becomes m.xs f (f ∷ []) g.0 = subst (λ (x : ProtocolState). Becomes m.xs f (seat_process x.x f.last_save ∷ []) g.0) h.after g.1 in
     let ok = (inv.seats X).each f (was_in m.xs f (f ∷ []) g.0 b) in
     let sent = sends_all m h.out inv (says m X f inv ok h.out h.each) in
     let e : v.sent ≡ m.sent ++ h.out = ap (λ (x : ProtocolState). x.sent) h.after in
-    subst FencedInv (sym g.2)
-    (subst (λ (s : List Datagram). FencedInv (record m { xs = g.0; sent = s })) (sym e)
+    subst (FencedInv earlier) (sym g.2)
+    (subst (λ (s : List Datagram). FencedInv earlier (record m { xs = g.0; sent = s })) (sym e)
     (one_becomes (record m { sent = m.sent ++ h.out }) X f f g.0 sent b ((sent.seats X).each f (was_in m.xs f (f ∷ []) g.0 b))))
-sends_some m O f v n inv g h =
+sends_some {earlier} m O f v n inv g h =
     let b : Becomes m.os f (f ∷ []) g.0 = subst (λ (x : ProtocolState). Becomes m.os f (seat_process x.o f.last_save ∷ []) g.0) h.after g.1 in
     let ok = (inv.seats O).each f (was_in m.os f (f ∷ []) g.0 b) in
     let sent = sends_all m h.out inv (says m O f inv ok h.out h.each) in
     let e : v.sent ≡ m.sent ++ h.out = ap (λ (x : ProtocolState). x.sent) h.after in
-    subst FencedInv (sym g.2)
-    (subst (λ (s : List Datagram). FencedInv (record m { os = g.0; sent = s })) (sym e)
+    subst (FencedInv earlier) (sym g.2)
+    (subst (λ (s : List Datagram). FencedInv earlier (record m { os = g.0; sent = s })) (sym e)
     (one_becomes (record m { sent = m.sent ++ h.out }) O f f g.0 sent b ((sent.seats O).each f (was_in m.os f (f ∷ []) g.0 b))))
 
-pub ticks : (m : SharedMatch) (q : Player) (f : SeatProcess) (o : Outcome) (v : ProtocolState) (n : SharedMatch) → FencedInv m → SendsOnTick (MaySay m q f) 1 (seen_by_seat m q f) o v → SeatGoes m q f v n → FencedInv n
-ticks m q f (outcomes.Sent k) v n inv h g = sends_some m q f v n inv g h.0
-ticks m q f outcomes.LinkFault v n inv h g = sends_some m q f v n inv g h
-ticks m q f outcomes.Memory v n inv h g = sends_some m q f v n inv g h
-ticks m q f _ v n inv h g = absurd h
+pub ticks : {earlier : Earlier} (m : SharedMatch) (q : Player) (f : SeatProcess) (o : Outcome) (v : ProtocolState) (n : SharedMatch) → FencedInv earlier m → SendsOnTick (MaySay m q f) 1 (seen_by_seat m q f) o v → SeatGoes m q f v n → FencedInv earlier n
+ticks {earlier} m q f (outcomes.Sent k) v n inv h g = sends_some m q f v n inv g h.0
+ticks {earlier} m q f outcomes.LinkFault v n inv h g = sends_some m q f v n inv g h
+ticks {earlier} m q f outcomes.Memory v n inv h g = sends_some m q f v n inv g h
+ticks {earlier} m q f _ v n inv h g = absurd h
 
 -- ---- saving
 
-pub record Moved (id : ℕ) (terms : Terms) (sent : List Datagram) (S : List Entry) (q : Player) (k : Stored) (fs : List SeatProcess) : Type 0 where
+pub record Moved (earlier : Earlier) (id : ℕ) (terms : Terms) (sent : List Datagram) (S : List Entry) (q : Player) (k : Stored) (fs : List SeatProcess) : Type 0 where
   pub rest : SeatOk id terms sent S q (restored_seat k.slots k.restorable true)
-  pub all : SeatsOk id terms sent S q k fs
+  pub all : SeatsOk earlier id terms sent S q k fs
 
 seat_by : (id : ℕ) (terms : Terms) (q : Player) (f : SeatState) → IsSavedBy (party_of q) id terms (to_save_seat id terms q f)
 seat_by id terms q f = record { party = refl; id = refl; terms = refl }
 
-module _ (id : ℕ) (terms : Terms) (sent : List Datagram) (S : List Entry) (q : Player) (k : Stored) (fs : List SeatProcess) (f : SeatProcess)
-    (base : SeatOk id terms sent S q (restored_seat k.slots k.restorable true)) (all : SeatsOk id terms sent S q k fs)
+module _ {earlier : Earlier} (id : ℕ) (terms : Terms) (sent : List Datagram) (S : List Entry) (q : Player) (k : Stored) (fs : List SeatProcess) (f : SeatProcess)
+    (base : SeatOk id terms sent S q (restored_seat k.slots k.restorable true)) (all : SeatsOk earlier id terms sent S q k fs)
     (mine : SeatProcessOk id terms sent S q k all.ever f) (is : IsNewest k.restorable f.last_save) where
   -- nothing else is restored: the slots alone changed
   same_restored : (slots : Slots) (news : List SeatProcess) → SlotsOk id terms (party_of q) slots k.restorable → Becomes fs f [] news
-      → Moved id terms sent S q (record { slots = slots; restorable = k.restorable }) news
+      → Moved earlier id terms sent S q (record { slots = slots; restorable = k.restorable }) news
   same_restored slots news ok b = record {
     rest = in_slots (restored_seat k.slots k.restorable true) base refl;
     all = record {
@@ -242,6 +243,7 @@ module _ (id : ℕ) (terms : Terms) (sent : List Datagram) (S : List Entry) (q :
       was_sent = all.was_sent;
       each = each_becomes (SeatProcessOk id terms sent S q (record { slots = slots; restorable = k.restorable }) all.ever) fs f [] news b
           (λ x c. other x (all.each x c)) (λ x c. absurd (none_in x c));
+      begun = λ found w. other (seat_from found) (all.begun found w);
     };
   }
     where
@@ -279,7 +281,7 @@ module _ (id : ℕ) (terms : Terms) (sent : List Datagram) (S : List Entry) (q :
   -- the save is restored
   own_restored : (slots : Slots) (after news : List SeatProcess) → SlotsOk id terms (party_of q) slots (Some saved_parts) → Becomes fs f after news
       → ((x : SeatProcess) → Contains after x → x ≡ record { log = f.log; claim = f.claim; claim_saved = true; last_save = next_number k.restorable })
-      → Moved id terms sent S q (record { slots = slots; restorable = Some saved_parts }) news
+      → Moved earlier id terms sent S q (record { slots = slots; restorable = Some saved_parts }) news
   own_restored slots after news ok b new = record {
     rest = seated;
     all = record {
@@ -290,6 +292,7 @@ module _ (id : ℕ) (terms : Terms) (sent : List Datagram) (S : List Entry) (q :
       each = each_becomes (SeatProcessOk id terms sent S q (record { slots = slots; restorable = Some saved_parts }) (ever_with all.ever f.claim)) fs f after news b
           (λ x c. other x (all.each x c))
           (λ x c. subst (SeatProcessOk id terms sent S q (record { slots = slots; restorable = Some saved_parts }) (ever_with all.ever f.claim)) (sym (new x c)) own);
+      begun = λ found w. other (seat_from found) (all.begun found w);
     };
   }
     where
@@ -331,10 +334,10 @@ module _ (id : ℕ) (terms : Terms) (sent : List Datagram) (S : List Entry) (q :
   pub written : (number : ℕ) (slots : Slots) (restorable : Option SavedParts) (news : List SeatProcess) → number ≡ next_number k.restorable
       → SaveWritten saved_parts k.slots slots restorable
       → Becomes fs f (record { log = f.log; claim = f.claim; claim_saved = true; last_save = number } ∷ []) news
-      → Moved id terms sent S q (record { slots = slots; restorable = restorable }) news
+      → Moved earlier id terms sent S q (record { slots = slots; restorable = restorable }) news
   written number slots restorable news next h b =
       let w = after_whole id terms (party_of q) k.slots k.restorable saved_parts slots restorable base.slots (seat_by id terms q (seat_as_seen k f)) refl h in
-      subst (λ (r : Option SavedParts). Moved id terms sent S q (record { slots = slots; restorable = r }) news) (sym w.1)
+      subst (λ (r : Option SavedParts). Moved earlier id terms sent S q (record { slots = slots; restorable = r }) news) (sym w.1)
       (own_restored slots (record { log = f.log; claim = f.claim; claim_saved = true; last_save = number } ∷ []) news
       (subst (λ (r : Option SavedParts). SlotsOk id terms (party_of q) slots r) w.1 w.0) b
       (of_one (λ (x : SeatProcess). x ≡ record { log = f.log; claim = f.claim; claim_saved = true; last_save = next_number k.restorable })
@@ -342,71 +345,71 @@ module _ (id : ℕ) (terms : Terms) (sent : List Datagram) (S : List Entry) (q :
       (ap (λ (i : ℕ). record { log = f.log; claim = f.claim; claim_saved = true; last_save = i }) next)))
 
   pub torn : (slots : Slots) (restorable : Option SavedParts) (news : List SeatProcess) → SaveTorn saved_parts k.slots slots restorable
-      → Becomes fs f [] news → Moved id terms sent S q (record { slots = slots; restorable = restorable }) news
+      → Becomes fs f [] news → Moved earlier id terms sent S q (record { slots = slots; restorable = restorable }) news
   torn slots restorable news h b = of w.1
     where
       w : SlotsOk id terms (party_of q) slots restorable × ((restorable ≡ k.restorable) ⊎ (restorable ≡ Some saved_parts))
       w = after_torn id terms (party_of q) k.slots k.restorable saved_parts slots restorable base.slots (seat_by id terms q (seat_as_seen k f)) refl h
 
-      of : (restorable ≡ k.restorable) ⊎ (restorable ≡ Some saved_parts) → Moved id terms sent S q (record { slots = slots; restorable = restorable }) news
+      of : (restorable ≡ k.restorable) ⊎ (restorable ≡ Some saved_parts) → Moved earlier id terms sent S q (record { slots = slots; restorable = restorable }) news
       of (inl e) =
-          subst (λ (r : Option SavedParts). Moved id terms sent S q (record { slots = slots; restorable = r }) news) (sym e)
+          subst (λ (r : Option SavedParts). Moved earlier id terms sent S q (record { slots = slots; restorable = r }) news) (sym e)
           (same_restored slots news (subst (λ (r : Option SavedParts). SlotsOk id terms (party_of q) slots r) e w.0) b)
       of (inr e) =
-          subst (λ (r : Option SavedParts). Moved id terms sent S q (record { slots = slots; restorable = r }) news) (sym e)
+          subst (λ (r : Option SavedParts). Moved earlier id terms sent S q (record { slots = slots; restorable = r }) news) (sym e)
           (own_restored slots [] news (subst (λ (r : Option SavedParts). SlotsOk id terms (party_of q) slots r) e w.0) b (λ x c. absurd (none_in x c)))
 
 -- the seat at rest
-pub rest_of : (m : SharedMatch) (q : Player) → FencedInv m → SeatOk m.id m.terms m.sent (ready m) q (restored_seat (stored_of m q).slots (stored_of m q).restorable true)
-rest_of m X inv = inv.base.x
-rest_of m O inv = inv.base.o
+pub rest_of : {earlier : Earlier} (m : SharedMatch) (q : Player) → FencedInv earlier m → SeatOk m.id m.terms m.sent (ready m) q (restored_seat (stored_of m q).slots (stored_of m q).restorable true)
+rest_of {earlier} m X inv = inv.base.x
+rest_of {earlier} m O inv = inv.base.o
 
-move_seats : (m : SharedMatch) (q : Player) (k : Stored) (fs : List SeatProcess) → FencedInv m → Moved m.id m.terms m.sent (ready m) q k fs → FencedInv (with_stored (with_seats m q fs) q k)
-move_seats m X k fs inv new = record { base = seat_steps (at_rest m) X (restored_seat k.slots k.restorable true) inv.base new.rest; referees = inv.referees; seats = seats; watching = inv.watching }
+move_seats : {earlier : Earlier} (m : SharedMatch) (q : Player) (k : Stored) (fs : List SeatProcess) → FencedInv earlier m → Moved earlier m.id m.terms m.sent (ready m) q k fs → FencedInv earlier (with_stored (with_seats m q fs) q k)
+move_seats {earlier} m X k fs inv new = record { base = seat_steps (at_rest m) X (restored_seat k.slots k.restorable true) inv.base new.rest; referees = inv.referees; begun = inv.begun; seats = seats; watching = inv.watching }
   where
-    seats : (q : Player) → SeatsOk m.id m.terms m.sent (ready m) q (stored_of (record m { xs = fs; x = k }) q) (seats_of (record m { xs = fs; x = k }) q)
+    seats : (q : Player) → SeatsOk earlier m.id m.terms m.sent (ready m) q (stored_of (record m { xs = fs; x = k }) q) (seats_of (record m { xs = fs; x = k }) q)
     seats X = new.all
     seats O = inv.seats O
-move_seats m O k fs inv new = record { base = seat_steps (at_rest m) O (restored_seat k.slots k.restorable true) inv.base new.rest; referees = inv.referees; seats = seats; watching = inv.watching }
+move_seats {earlier} m O k fs inv new = record { base = seat_steps (at_rest m) O (restored_seat k.slots k.restorable true) inv.base new.rest; referees = inv.referees; begun = inv.begun; seats = seats; watching = inv.watching }
   where
-    seats : (q : Player) → SeatsOk m.id m.terms m.sent (ready m) q (stored_of (record m { os = fs; o = k }) q) (seats_of (record m { os = fs; o = k }) q)
+    seats : (q : Player) → SeatsOk earlier m.id m.terms m.sent (ready m) q (stored_of (record m { os = fs; o = k }) q) (seats_of (record m { os = fs; o = k }) q)
     seats X = inv.seats X
     seats O = new.all
 
-of_state : (m : SharedMatch) (q : Player) (new old : SeatState) (fs : List SeatProcess) → new ≡ old
-    → FencedInv (with_stored (with_seats m q fs) q (record { slots = old.slots; restorable = old.restorable }))
-    → FencedInv (with_stored (with_seats m q fs) q (record { slots = new.slots; restorable = new.restorable }))
-of_state m q new old fs e h = subst (λ (x : SeatState). FencedInv (with_stored (with_seats m q fs) q (record { slots = x.slots; restorable = x.restorable }))) (sym e) h
+of_state : {earlier : Earlier} (m : SharedMatch) (q : Player) (new old : SeatState) (fs : List SeatProcess) → new ≡ old
+    → FencedInv earlier (with_stored (with_seats m q fs) q (record { slots = old.slots; restorable = old.restorable }))
+    → FencedInv earlier (with_stored (with_seats m q fs) q (record { slots = new.slots; restorable = new.restorable }))
+of_state {earlier} m q new old fs e h = subst (λ (x : SeatState). FencedInv earlier (with_stored (with_seats m q fs) q (record { slots = x.slots; restorable = x.restorable }))) (sym e) h
 
-pub saves : (m : SharedMatch) (q : Player) (f : SeatProcess) (o : Outcome) (n : SharedMatch) → FencedInv m → SeatSaves m q f o n → FencedInv n
-saves m q f (outcomes.Saved number) n inv h =
+pub saves : {earlier : Earlier} (m : SharedMatch) (q : Player) (f : SeatProcess) (o : Outcome) (n : SharedMatch) → FencedInv earlier m → SeatSaves m q f o n → FencedInv earlier n
+saves {earlier} m q f (outcomes.Saved number) n inv h =
     let s = (h.3).1 in
     let core = seat_as_seen (stored_of m q) f in
     let new = record core { claim_saved = true; slots = s.0; restorable = s.1 } in
     let b : Becomes (seats_of m q) f (record { log = f.log; claim = f.claim; claim_saved = true; last_save = number } ∷ []) h.1 =
     subst (λ (x : SeatState). Becomes (seats_of m q) f (seat_process x number ∷ []) h.1) s.3 h.4 in
     let ok = (inv.seats q).each f (was_in (seats_of m q) f (seat_process h.0 number ∷ []) h.1 h.4) in
-    subst FencedInv (sym h.5)
+    subst (FencedInv earlier) (sym h.5)
     (of_state m q h.0 new h.1 s.3
     (move_seats m q (record { slots = s.0; restorable = s.1 }) h.1 inv
     (written m.id m.terms m.sent (ready m) q (stored_of m q) (seats_of m q) f (rest_of m q inv) (inv.seats q) ok h.2 number s.0 s.1 h.1 (h.3).0 s.2 b)))
-saves m q f outcomes.SaveFault n inv h = at_place h.2
+saves {earlier} m q f outcomes.SaveFault n inv h = at_place h.2
   where
     ok : SeatProcessOk m.id m.terms m.sent (ready m) q (stored_of m q) (ever_of m inv q) f
     ok = (inv.seats q).each f (was_in (seats_of m q) f [] h.0 h.1)
 
     at_place : (n ≡ with_seats m q h.0)
         ⊎ ((new : SeatState) × IsNewest (stored_of m q).restorable f.last_save × SeatSaveStep m.id m.terms q outcomes.SaveFault (seat_as_seen (stored_of m q) f) new
-        × (n ≡ with_stored (with_seats m q h.0) q (record { slots = new.slots; restorable = new.restorable }))) → FencedInv n
+        × (n ≡ with_stored (with_seats m q h.0) q (record { slots = new.slots; restorable = new.restorable }))) → FencedInv earlier n
     at_place (inl e) =
-        subst FencedInv (sym e)
+        subst (FencedInv earlier) (sym e)
         (change_seats m q h.0 inv (seats_become m.id m.terms m.sent (ready m) q (stored_of m q) (seats_of m q) f [] h.0 (inv.seats q) h.1 (λ x c. absurd (none_in x c))))
     at_place (inr g) =
         let s = g.2 in
-        subst FencedInv (sym g.3)
+        subst (FencedInv earlier) (sym g.3)
         (of_state m q g.0 (restored_seat s.0 s.1 false) h.0 s.3
         (move_seats m q (record { slots = s.0; restorable = s.1 }) h.0 inv
         (torn m.id m.terms m.sent (ready m) q (stored_of m q) (seats_of m q) f (rest_of m q inv) (inv.seats q) ok g.1 s.0 s.1 h.0 s.2 h.1)))
-saves m q f outcomes.SavesSpent n inv h = subst FencedInv (sym h) inv
-saves m q f outcomes.Memory n inv h = subst FencedInv (sym h) inv
-saves m q f _ n inv h = absurd h
+saves {earlier} m q f outcomes.SavesSpent n inv h = subst (FencedInv earlier) (sym h) inv
+saves {earlier} m q f outcomes.Memory n inv h = subst (FencedInv earlier) (sym h) inv
+saves {earlier} m q f _ n inv h = absurd h

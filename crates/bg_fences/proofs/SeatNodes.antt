@@ -16,8 +16,8 @@ use Rattle.bg_wire.specs.Packets.PacketText.{IsPacket}
 use Rattle.bg_wire.specs.Parties.{party_of}
 use Rattle.bg_wire.specs.Entries.Codes.{first_watcher, referee}
 use Rattle.bg_wire.specs.Saved.Restoring.{SlotsRestore}
-use Rattle.bg_wire.specs.Saved.SavedText.{SavedParts}
-use Rattle.bg_wire.specs.Saved.SlotLaws.{Slots, AreOfMatch}
+use Rattle.bg_wire.specs.Saved.SavedText.{SavedParts, parts_of}
+use Rattle.bg_wire.specs.Saved.SlotLaws.{Slots}
 use Rattle.bg_wire.specs.declared.faults.SaveRefusal.{SaveRefusal}
 use Rattle.bg_wire.specs.declared.faults.SaveRefusal.TheVariants as save_refusals
 use Rattle.bg_wire.specs.declared.packets.Datagram.{Datagram}
@@ -43,11 +43,12 @@ use Rattle.bg_world.specs.declared.events.Outcome.TheVariants as outcomes
 use Rattle.bg_world.proofs.Protocol.EarlyEntries.{none_kept}
 use Rattle.bg_world.proofs.Protocol.Saving.{SlotsOk}
 use Rattle.bg_world.proofs.Steps.Hands.{carries}
-use Rattle.bg_world.proofs.Steps.RestartCases.{IsReread, given, empty, not_read, no_memory, rereads}
 use Rattle.bg_world.proofs.Steps.SaveCases.{IsSaved, written, torn, spent, no_memory as save_no_memory, is_saved}
 use Rattle.bg_world.proofs.Steps.SendCases.{Went, sends_all, ticks_row}
-use Rattle.bg_fences.specs.SharedMatches.{Stored, seat_as_seen, begun_seat}
+use Rattle.bg_fences.specs.SharedMatches.{Stored, seat_as_seen}
 use Rattle.bg_fences.specs.SharedNodes.{IsFenced, IsNextAt, IsRefused, process_of_seat}
+use Rattle.bg_fences.proofs.Invariant.{seat_from}
+use Rattle.bg_fences.proofs.SlotReads.{IsFound, empty, finds, given, not_found}
 
 -- what a core of a seat knows beside its process
 pub record IsSeatCoreOf (id : ℕ) (terms : Terms) (sent : List Datagram) (q : Player) (s : SeatView) : Type 0 where
@@ -230,50 +231,41 @@ seat_saves_to id terms sent q k s keeper new o after fits ok same h (inr stale) 
 
 -- ---- restarting
 
-pub data SeatComesBack (id : ℕ) (terms : Terms) (sent : List Datagram) (q : Player) (k : Stored) (o : Outcome) (after : Option SeatView) : Type 0 where
-  up : (s : SeatView) → o ≡ outcomes.Restarted → after ≡ Some s → process_of_seat s ≡ begun_seat k → IsSeatCoreOf id terms sent q s → SeatComesBack id terms sent q k o after
-  down : after ≡ None → SeatComesBack id terms sent q k o after
+pub data SeatComesBack (id : ℕ) (terms : Terms) (sent : List Datagram) (q : Player) (read : Slots) (after : Option SeatView) : Type 0 where
+  up : (s : SeatView) (found : Option SavedParts) → SlotsRestore read.zero read.one found → after ≡ Some s → process_of_seat s ≡ seat_from found → IsSeatCoreOf id terms sent q s
+      → SeatComesBack id terms sent q read after
+  down : after ≡ None → SeatComesBack id terms sent q read after
 
 player_back : (q : Player) (party : ℕ) → party ≡ party_of q → player_of party ≡ q
 player_back X party e = ap player_of e
 player_back O party e = ap player_of e
 
-pub seat_restarts_to : (id : ℕ) (terms : Terms) (sent : List Datagram) (q : Player) (k : Stored) (keeper new : KeeperView) (o : Outcome) (after : Option SeatView)
-    → SlotsOk id terms (party_of q) k.slots k.restorable → keeper.slots ≡ k.slots
-    → RestartCallsAt resumed_seat (fresh_seat q id terms) ⊤ (party_of q) id terms keeper o new after
-    → SeatComesBack id terms sent q k o after × (new.slots ≡ k.slots)
-seat_restarts_to id terms sent q k keeper new o after ok same h = (of read.0 h.2, read.1 ∙ same)
+pub seat_restarts_to : (id : ℕ) (terms : Terms) (sent : List Datagram) (q : Player) (keeper new : KeeperView) (o : Outcome) (after : Option SeatView)
+    → RestartCallsAt resumed_seat (fresh_seat q id terms) ⊤ (party_of q) id terms keeper o new after → SeatComesBack id terms sent q keeper.slots after
+seat_restarts_to id terms sent q keeper new o after h = of (finds (party_of q) id terms keeper new h.0 h.1) h.2
   where
-    read : IsReread k.restorable h.0 × (new.slots ≡ keeper.slots)
-    read = rereads id terms (party_of q) k.restorable ⊤ tt keeper new h.0 (subst (λ (s : Slots). SlotsOk id terms (party_of q) s k.restorable) (sym same) ok) h.1
-
     number : (n : ℕ) → n + 1 - 1 ≡ n
     number n = omega arith
 
-    of : IsReread k.restorable h.0 → ComesUp resumed_seat (fresh_seat q id terms) h.0 o after → SeatComesBack id terms sent q k o after
-    of (given s e f) g =
+    of : IsFound (party_of q) id terms keeper.slots h.0 → ComesUp resumed_seat (fresh_seat q id terms) h.0 o after → SeatComesBack id terms sent q keeper.slots after
+    of (given s restore is f) g =
         let u = subst (λ (x : Result (Option Saved) Outcome). ComesUp resumed_seat (fresh_seat q id terms) x o after) f g in
-        let of_match = subst (λ (x : Option SavedParts). AreOfMatch (party_of q) id terms k.slots x) e ok.of_match in
-        up (resumed_seat s) u.0 u.1
-        (ap (λ (n : ℕ). record { log = s.log.entries; claim = s.claim; claim_saved = true; last_save = n }) (number s.save)
-        ∙ ap (λ (x : Option SavedParts). begun_seat (record { slots = k.slots; restorable = x })) (sym e))
+        up (resumed_seat s) (Some (parts_of s)) restore u.1
+        (ap (λ (n : ℕ). record { log = s.log.entries; claim = s.claim; claim_saved = true; last_save = n }) (number s.save))
         (record {
-          sits_for = player_back q s.party of_match.party;
-          log = (of_match.id, of_match.terms);
+          sits_for = player_back q s.party is.party;
+          log = (is.id, is.terms);
           numbered = omega arith;
           early = none_kept id terms sent (party_of q) (resumed_seat s).follower refl;
         })
-    of (empty e f) g =
+    of (empty restore f) g =
         let u = subst (λ (x : Result (Option Saved) Outcome). ComesUp resumed_seat (fresh_seat q id terms) x o after) f g in
-        up (fresh_seat q id terms) u.0 u.1
-        (ap (λ (x : Option SavedParts). begun_seat (record { slots = k.slots; restorable = x })) (sym e))
+        up (fresh_seat q id terms) None restore u.1 refl
         (record {
           sits_for = refl;
           log = (refl, refl);
           numbered = omega arith;
           early = none_kept id terms sent (party_of q) (fresh_seat q id terms).follower refl;
         })
-    of (not_read f) g =
-        let u = subst (λ (x : Result (Option Saved) Outcome). ComesUp resumed_seat (fresh_seat q id terms) x o after) f g in down u.1
-    of (no_memory f) g =
+    of (not_found why f) g =
         let u = subst (λ (x : Result (Option Saved) Outcome). ComesUp resumed_seat (fresh_seat q id terms) x o after) f g in down u.1

@@ -20,21 +20,21 @@ use Rattle.bg_world.specs.Protocol.Slots.{claim_in}
 use Rattle.bg_world.specs.Protocol.State.{RefereeState, SeatState}
 use Rattle.bg_world.proofs.Protocol.Invariant.{SeatOk, RefereeOk, Claimed-more, WasSent-cases}
 use Rattle.bg_fences.specs.SharedMatches.{RefereeProcess, SeatProcess, Stored, SharedMatch, stored_of, seats_of, at_rest, seat_as_seen, referee_as_seen}
-use Rattle.bg_fences.proofs.Invariant.{FencedInv, RefereeProcessOk, SeatProcessOk, SeatsOk, ready, claims_kept}
+use Rattle.bg_fences.proofs.Invariant.{Earlier, FencedInv, RefereeProcessOk, SeatProcessOk, SeatsOk, claims_kept, ready, referee_from, seat_from}
 
 -- a claim is one that the seat ever saved
 abbrev pub IsEver : (Player → List (ℕ × Action)) → Packet → Type 0
 IsEver ever (packet.Claim id rules sender n a) = (q : Player) → sender ≡ party_of q → Contains (ever q) (n, a)
 IsEver ever _ = Unit {0}
 
-abbrev pub ever_of : (m : SharedMatch) → FencedInv m → Player → List (ℕ × Action)
-ever_of m inv q = (inv.seats q).ever
+abbrev pub ever_of : {earlier : Earlier} (m : SharedMatch) → FencedInv earlier m → Player → List (ℕ × Action)
+ever_of {earlier} m inv q = (inv.seats q).ever
 
-abbrev pub MayGo : (m : SharedMatch) → FencedInv m → Datagram → Type 0
-MayGo m inv d = (p : Packet) × IsText p d.bytes × IsSound (at_rest m) p × IsEver (ever_of m inv) p
+abbrev pub MayGo : {earlier : Earlier} (m : SharedMatch) → FencedInv earlier m → Datagram → Type 0
+MayGo {earlier} m inv d = (p : Packet) × IsText p d.bytes × IsSound (at_rest m) p × IsEver (ever_of m inv) p
 
-may_go : (m : SharedMatch) (inv : FencedInv m) (d : Datagram) (to : ℕ) (p : Packet) → MayGo m inv d → Carries d to p → IsSound (at_rest m) p × IsEver (ever_of m inv) p
-may_go m inv d to p h c =
+may_go : {earlier : Earlier} (m : SharedMatch) (inv : FencedInv earlier m) (d : Datagram) (to : ℕ) (p : Packet) → MayGo m inv d → Carries d to p → IsSound (at_rest m) p × IsEver (ever_of m inv) p
+may_go {earlier} m inv d to p h c =
     let same = one_packet h.0 p d.bytes h.1 c.1 in
     subst (λ (x : Packet). IsSound (at_rest m) x × IsEver (ever_of m inv) x) same (h.2, h.3)
 
@@ -68,8 +68,8 @@ seat_claims id terms sent after S q f claims h = record {
   claims = claims;
 }
 
-pub sends_all : (m : SharedMatch) (out : List Datagram) (inv : FencedInv m) → All (MayGo m inv) out → FencedInv (record m { sent = m.sent ++ out })
-sends_all m out inv may = record {
+pub sends_all : {earlier : Earlier} (m : SharedMatch) (out : List Datagram) (inv : FencedInv earlier m) → All (MayGo m inv) out → FencedInv earlier (record m { sent = m.sent ++ out })
+sends_all {earlier} m out inv may = record {
   base = record {
     setup = inv.base.setup;
     referee = referee_more m.id m.terms m.sent out (at_rest m).referee inv.base.referee;
@@ -79,6 +79,7 @@ sends_all m out inv may = record {
     datagrams = λ to p h. sound p (at_place to p (WasSent-cases m.sent out to p h));
   };
   referees = λ p c. referee_process_more m.id m.terms m.sent out (ready m) m.referee p (inv.referees p c);
+  begun = λ found w. referee_process_more m.id m.terms m.sent out (ready m) m.referee (referee_from found) (inv.begun found w);
   seats = seats;
   watching = inv.watching;
 }
@@ -115,15 +116,16 @@ sends_all m out inv may = record {
       newest = λ is. seat_claims m.id m.terms m.sent (m.sent ++ out) (ready m) q (seat_as_seen (stored_of m q) f) (claims q) (h.newest is);
     }
 
-    of_player : (q : Player) → SeatsOk m.id m.terms (m.sent ++ out) (ready m) q (stored_of m q) (seats_of m q)
+    of_player : (q : Player) → SeatsOk earlier m.id m.terms (m.sent ++ out) (ready m) q (stored_of m q) (seats_of m q)
     of_player q = record {
       ever = (inv.seats q).ever;
       kept = (inv.seats q).kept;
       in_slots = (inv.seats q).in_slots;
       was_sent = was q;
       each = λ f c. process q f ((inv.seats q).each f c);
+      begun = λ found w. process q (seat_from found) ((inv.seats q).begun found w);
     }
 
-    seats : (q : Player) → SeatsOk m.id m.terms (m.sent ++ out) (ready m) q (stored_of (record m { sent = m.sent ++ out }) q) (seats_of (record m { sent = m.sent ++ out }) q)
+    seats : (q : Player) → SeatsOk earlier m.id m.terms (m.sent ++ out) (ready m) q (stored_of (record m { sent = m.sent ++ out }) q) (seats_of (record m { sent = m.sent ++ out }) q)
     seats X = of_player X
     seats O = of_player O

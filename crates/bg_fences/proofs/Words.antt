@@ -36,8 +36,8 @@ use Rattle.bg_fences.specs.FencedPromises.{ShowsWordsHandedIn}
 use Rattle.bg_fences.specs.ProcessCalls.{IsNewest, ProcessBegins, ProcessCalls, ProcessSaves, ProcessTakes, ProcessTicks, RefereeGoes, RefereeSaves, SeatSaves}
 use Rattle.bg_fences.specs.ProcessRuns.{IsReachedByProcesses, ProcessesRun, events_of, no_process}
 use Rattle.bg_fences.specs.SharedMatches.{Becomes, RefereeProcess, SeatProcess, SharedMatch, Stored, referee_process, seen_by_referee, settled, with_seats, with_stored}
-use Rattle.bg_fences.proofs.AllCalls.{call_keeps, starts}
-use Rattle.bg_fences.proofs.Invariant.{FencedInv}
+use Rattle.bg_fences.proofs.AllCalls.{call_keeps, earlier_in, remembers_now, starts}
+use Rattle.bg_fences.proofs.Invariant.{Earlier, FencedInv}
 use Rattle.bg_fences.proofs.Lists.{cases_in, each_becomes, none_in, of_one, was_in}
 use Rattle.bg_fences.proofs.RefereeCalls.{as_newest}
 
@@ -128,7 +128,7 @@ module _ (IsWord : ℕ → Type 0) where
       of (inl e) = subst Shows (sym (ap entries_in e)) s.of_settled
       of (inr e) = subst Shows (sym (ap entries_in e)) (s.of_held p c)
 
-  saves_referee : (m : SharedMatch) (p : RefereeProcess) (o : Outcome) (n : SharedMatch) → FencedInv m → Shown m → RefereeSaves m p o n → Shown n
+  saves_referee : {earlier : Earlier} (m : SharedMatch) (p : RefereeProcess) (o : Outcome) (n : SharedMatch) → FencedInv earlier m → Shown m → RefereeSaves m p o n → Shown n
   saves_referee m p (outcomes.Saved k) n inv s h =
       let c = was_in m.referees p (referee_process (h.0).referee k ∷ []) h.1 h.4 in
       let w = as_newest m p inv (inv.referees p c) h.2 in
@@ -183,7 +183,7 @@ module _ (IsWord : ℕ → Type 0) where
   takes_at m (AsSeat q) word o n is s h = subst Shown (sym h.5) (of_seats m q h.2 s)
   takes_at m (AsWatcher i) word o n is s h = subst Shown (sym h.4.2) (record { of_settled = s.of_settled; of_held = s.of_held })
 
-  saves_at : (m : SharedMatch) (r : Role) (o : Outcome) (n : SharedMatch) → FencedInv m → Shown m → ProcessSaves m r o n → Shown n
+  saves_at : {earlier : Earlier} (m : SharedMatch) (r : Role) (o : Outcome) (n : SharedMatch) → FencedInv earlier m → Shown m → ProcessSaves m r o n → Shown n
   saves_at m AsReferee o n inv s h = saves_referee m h.0 o n inv s h.1
   saves_at m (AsSeat q) o n inv s h = saves_seat m q h.0 o n s h.1
   saves_at m (AsWatcher i) o n inv s h = subst Shown (sym h) s
@@ -193,41 +193,54 @@ module _ (IsWord : ℕ → Type 0) where
   ticks_at m (AsSeat q) o n s h = subst Shown (sym h.3.2) (of_seats_sent m q h.3.0 (h.1).sent s)
   ticks_at m (AsWatcher i) o n s h = subst Shown (sym h.4.2) (record { of_settled = s.of_settled; of_held = s.of_held })
 
-  begins_at : (m : SharedMatch) (r : Role) (o : Outcome) (n : SharedMatch) → Shown m → ProcessBegins m r o n → Shown n
-  begins_at m AsReferee outcomes.Restarted n s h = subst Shown (sym h) (record {
+  -- what was settled at each of these moments shows such words
+  abbrev ShownAt : List SharedMatch → Type 0
+  ShownAt moments = (past : SharedMatch) → Contains moments past → Shows (settled past)
+
+  begins_at : (moments : List SharedMatch) (m : SharedMatch) (r : Role) (o : Outcome) (n : SharedMatch) → ShownAt moments → Shown m → ProcessBegins moments m r o n → Shown n
+  begins_at moments m AsReferee outcomes.Restarted n were s h = subst Shown (sym h.2) (record {
     of_settled = s.of_settled;
     of_held = λ p c. elim (cases_in _ p m.referees c) [
-      | inl e ↦ subst (λ (x : RefereeProcess). Shows x.log) e s.of_settled
+      | inl e ↦ subst (λ (x : RefereeProcess). Shows x.log) e (were h.0 h.1)
       | inr k ↦ s.of_held p k
     ];
   })
-  begins_at m (AsSeat q) outcomes.Restarted n s h = subst Shown (sym h) (of_seats m q _ s)
-  begins_at m (AsWatcher i) outcomes.Restarted n s h = subst Shown (sym h.1) (record { of_settled = s.of_settled; of_held = s.of_held })
-  begins_at m AsReferee _ n s h = subst Shown (sym h) s
-  begins_at m (AsSeat q) _ n s h = subst Shown (sym h) s
-  begins_at m (AsWatcher i) _ n s h = subst Shown (sym h) s
+  begins_at moments m (AsSeat q) outcomes.Restarted n were s h = subst Shown (sym h.2) (of_seats m q _ s)
+  begins_at moments m (AsWatcher i) outcomes.Restarted n were s h = subst Shown (sym h.1) (record { of_settled = s.of_settled; of_held = s.of_held })
+  begins_at moments m AsReferee _ n were s h = subst Shown (sym h) s
+  begins_at moments m (AsSeat q) _ n were s h = subst Shown (sym h) s
+  begins_at moments m (AsWatcher i) _ n were s h = subst Shown (sym h) s
 
-  call_shows : (m : SharedMatch) (e : Event) (o : Outcome) (n : SharedMatch) → FencedInv m → ((word : ℕ) → IsWordOf e word → IsWord word) → Shown m → ProcessCalls m e o n → Shown n
-  call_shows m (events.Due word) o n inv is s h = goes m h.0 h.1 n s h.3 (λ l. dues (seen_by_referee m h.0) word o h.1 (is word refl) l h.2)
-  call_shows m (events.Take party pick word) o n inv is s h = takes_at m (role party) word o n (is word refl) s h
-  call_shows m (events.Choose q a) o n inv is s h = subst Shown (sym h.5) (of_seats m q h.2 s)
-  call_shows m (events.Save party) o n inv is s h = saves_at m (role party) o n inv s h
-  call_shows m (events.Tick party) o n inv is s h = ticks_at m (role party) o n s h
-  call_shows m (events.Restart party) o n inv is s h = begins_at m (role party) o n s h
+  call_shows : (moments : List SharedMatch) (m : SharedMatch) (e : Event) (o : Outcome) (n : SharedMatch) → FencedInv (earlier_in moments) m → ((word : ℕ) → IsWordOf e word → IsWord word) → ShownAt moments → Shown m → ProcessCalls moments m e o n → Shown n
+  call_shows moments m (events.Due word) o n inv is were s h = goes m h.0 h.1 n s h.3 (λ l. dues (seen_by_referee m h.0) word o h.1 (is word refl) l h.2)
+  call_shows moments m (events.Take party pick word) o n inv is were s h = takes_at m (role party) word o n (is word refl) s h
+  call_shows moments m (events.Choose q a) o n inv is were s h = subst Shown (sym h.5) (of_seats m q h.2 s)
+  call_shows moments m (events.Save party) o n inv is were s h = saves_at m (role party) o n inv s h
+  call_shows moments m (events.Tick party) o n inv is were s h = ticks_at m (role party) o n s h
+  call_shows moments m (events.Restart party) o n inv is were s h = begins_at moments m (role party) o n were s h
 
-  run_shows : (m : SharedMatch) (hs : List (Event × Outcome)) (n : SharedMatch) → FencedInv m → ((word : ℕ) → HandsIn (events_of hs) word → IsWord word) → Shown m → ProcessesRun m hs n → Shown n
-  run_shows m [] n inv is s r = subst Shown (sym r) s
-  run_shows m (h ∷ hs) n inv is s r =
-      run_shows r.0 hs n (call_keeps m h.0 h.1 r.0 inv r.1)
-      (λ word k. is word (k.0, Contains-append_right (h.0 ∷ []) (events_of hs) k.0 k.1, k.2))
-      (call_shows m h.0 h.1 r.0 inv (λ word k. is word (h.0, first, k)) s r.1) r.2
+  run_shows : (before : List SharedMatch) (m : SharedMatch) (hs : List (Event × Outcome)) (n : SharedMatch) → FencedInv (earlier_in before) m → ((word : ℕ) → HandsIn (events_of hs) word → IsWord word) → ShownAt before → Shown m → ProcessesRun before m hs n → Shown n
+  run_shows before m [] n inv is were s r = subst Shown (sym r) s
+  run_shows before m (h ∷ hs) n inv is were s r =
+      run_shows (m ∷ before) r.0 hs n (call_keeps (m ∷ before) m h.0 h.1 r.0 now r.1)
+      (λ word k. is word (k.0, Contains-append_right (h.0 ∷ []) (events_of hs) k.0 k.1, k.2)) were_now
+      (call_shows (m ∷ before) m h.0 h.1 r.0 now (λ word k. is word (h.0, first, k)) were_now s r.1) r.2
     where
+      now : FencedInv (earlier_in (m ∷ before)) m
+      now = remembers_now before m inv
+
+      were_now : ShownAt (m ∷ before)
+      were_now past c = elim (cases_in m past before c) [
+        | inl e ↦ subst (λ (x : SharedMatch). Shows (settled x)) e s.of_settled
+        | inr k ↦ were past k
+      ]
+
       first : Contains (h.0 ∷ events_of hs) h.0
       first = Contains-get_or (h.0 ∷ events_of hs) 0 h.0 (omega arith)
 
 pub shows_words : (m : SharedMatch) (h : IsReachedByProcesses m) → ShowsWordsHandedIn m (events_of h.history)
 shows_words m h =
     let is = HandsIn (events_of h.history) in
-    let s = run_shows is (no_process h.id h.terms h.watchers) h.history m (starts h.id h.terms h.watchers h.setup) (λ word k. k)
+    let s = run_shows is [] (no_process h.id h.terms h.watchers) h.history m (starts h.id h.terms h.watchers h.setup) (λ word k. k) (λ past c. absurd (none_in past c))
     (record { of_settled = All-nil (ShowsWord is); of_held = λ p c. absurd (none_in p c) }) h.run in
     record { of_settled = s.of_settled; of_held = s.of_held }

@@ -1,8 +1,10 @@
 -- What the fence is for: without it, or with one that lets an equal number through, entries that
--- were told are lost. And what a process of the referee holds beyond what it counts as saved is not
--- settled.
-use Rattle.std.specs.Prelude.{ℕ, ◌+◌, ◌≤◌, true, Some, [], ◌∷◌, Contains}
+-- were told are lost. So they are where a process begins late, but counts its saves from the newest.
+-- And what a process of the referee holds beyond what it counts as saved is not settled.
+use Rattle.std.specs.Prelude.{ℕ, ◌+◌, ◌≤◌, true, Some, [], ◌∷◌, ◌++◌, Contains}
 use Rattle.std.proofs.Common.{refl, arith, lit<, lit≤}
+use Rattle.bg_match.specs.Match.{IsNext}
+use Rattle.bg_match.specs.declared.entries.Entry.{Entry}
 use Rattle.bg_wire.proofs.OfSaves.SavedLaws.{written_is_saved}
 use Rattle.bg_wire.specs.Saved.SavedText.{SavedParts, IsWrittenText, written_text}
 use Rattle.bg_wire.specs.Saved.SlotLaws.{save_in}
@@ -11,10 +13,11 @@ use Rattle.bg_world.specs.Protocol.SaveStep.{RefereeSaveStep}
 use Rattle.bg_world.specs.Protocol.State.{ProtocolState}
 use Rattle.bg_world.specs.declared.events.Outcome.TheVariants as outcomes
 use Rattle.bg_fences.specs.FencedPromises.{FencedHeadline}
+use Rattle.bg_fences.specs.ProcessCalls.{IsNewest}
 use Rattle.bg_fences.specs.ProcessRuns.{IsReachedByProcesses}
-use Rattle.bg_fences.specs.SharedMatches.{RefereeProcess, SharedMatch, Stored, seen_by_referee, settled}
+use Rattle.bg_fences.specs.SharedMatches.{RefereeProcess, SharedMatch, Stored, begun_referee, seen_by_referee, settled}
 use Rattle.bg_fences.proofs.Lists.{head_in, tail_in}
-use Rattle.bg_fences.proofs.WorkedProcesses.{holds, o_next, o_opens, one_saved, saved, saved_written, two_referees_differ, x_opens}
+use Rattle.bg_fences.proofs.WorkedProcesses.{holds, nobody, o_next, o_opens, one_saved, saved, saved_written, two_referees_differ, x_opens}
 
 -- the process whose opening was not saved
 abbrev stale : RefereeProcess
@@ -89,6 +92,18 @@ pub equal_number : ((m : SharedMatch) (p : RefereeProcess) (k : ℕ) (v : Protoc
     → save_in m.referee.restorable ≤ p.last_save + 1 → RefereeSaveStep (seen_by_referee m p) (outcomes.Saved k) v
     → FencedHeadline (record m { referee = record { slots = v.referee.slots; restorable = v.referee.restorable } })) → ⊥
 equal_number law = breaks (law one_saved stale 2 _ two_referees_differ (tail_in (holds (x_opens ∷ []) 1 1) stale (stale ∷ []) (head_in stale [])) (omega arith) would_save)
+
+-- the process that began with what the slots of another state restored, and holds one entry more
+abbrev one_later : SharedMatch → Entry → ℕ → RefereeProcess
+one_later past e number = let p = begun_referee past.referee in holds (p.log ++ e ∷ []) p.saved number
+
+-- where it counts its saves from the newest, although it began with nothing, the fence lets it
+-- through
+pub late_number : ((past m : SharedMatch) (e : Entry) (k : ℕ) (v : ProtocolState) → IsReachedByProcesses m
+    → IsNext m.terms (begun_referee past.referee).log e → IsNewest m.referee.restorable (one_later past e (save_in m.referee.restorable)).last_save
+    → RefereeSaveStep (seen_by_referee m (one_later past e (save_in m.referee.restorable))) (outcomes.Saved k) v
+    → FencedHeadline (record m { referee = record { slots = v.referee.slots; restorable = v.referee.restorable } })) → ⊥
+late_number law = breaks (law nobody one_saved o_opens 2 _ two_referees_differ o_next refl would_save)
 
 -- the whole record of a process of the referee is no front of what is settled
 pub whole_record : ((m : SharedMatch) → IsReachedByProcesses m → (p : RefereeProcess) → Contains m.referees p → IsPrefix p.log (settled m)) → ⊥

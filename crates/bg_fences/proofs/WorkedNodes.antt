@@ -19,22 +19,23 @@ use Rattle.bg_world.specs.Worlds.Views.{KeeperView}
 use Rattle.bg_world.specs.declared.devices.DeviceFault.TheVariants.{Failed}
 use Rattle.bg_world.specs.declared.events.Event.TheVariants as events
 use Rattle.bg_world.specs.declared.events.Outcome.TheVariants as outcomes
-use Rattle.bg_fences.specs.NodeActs.{IsReachedByNodes, NodeActs, no_node_begun, referee_with}
+use Rattle.bg_fences.specs.NodeActs.{AreReadOf, IsReachedByNodes, NodeActs, no_node_begun, referee_with}
 use Rattle.bg_fences.specs.SharedNodes.{SharedNodes}
+use Rattle.bg_fences.proofs.Lists.{head_in}
 use Rattle.bg_fences.proofs.WorkedProcesses.{o_due, o_next, o_opens, one_point, saved, saved_written, x_due, x_opens}
 
-abbrev fresh : RefereeView
+abbrev pub fresh : RefereeView
 fresh = fresh_referee 1 one_point
 
 -- a core that holds one entry, which is not saved
-abbrev holding : Entry → RefereeView
+abbrev pub holding : Entry → RefereeView
 holding e = record fresh { log = record (fresh.log) { entries = e ∷ [] } }
 
-abbrev two_nodes : Option RefereeView → Option RefereeView → Slots → SharedNodes
+abbrev pub two_nodes : Option RefereeView → Option RefereeView → Slots → SharedNodes
 two_nodes a b slots = record (no_node_begun 1 one_point 0 2 0 0) { referees = a ∷ b ∷ []; referee_slots = slots }
 
 -- a keeper that was asked for so many writes and reads, of which so many failed
-abbrev kept : Slots → ℕ → ℕ → ℕ → KeeperView
+abbrev pub kept : Slots → ℕ → ℕ → ℕ → KeeperView
 kept slots writes reads faults =
     record { plan = None; slots = slots; faults = faults; writes = writes; reads = reads; written = Ok tt }
 
@@ -61,7 +62,11 @@ o_written = record {
   legal = o_next;
 }
 
-due : (word : ℕ) (e : Entry) → IsDue one_point [] word e → RefereeDues fresh word (Ok 1) (holding e)
+-- both slots are read as they are
+pub read_now : (m : SharedNodes) (before : List SharedNodes) → AreReadOf (λ past. past.referee_slots) (m ∷ before) m.referee_slots
+read_now m before = (m, m, head_in m before, head_in m before, refl)
+
+pub due : (word : ℕ) (e : Entry) → IsDue one_point [] word e → RefereeDues fresh word (Ok 1) (holding e)
 due word e h = record { dues = (refl, (e, h, record { spare = λ l. omega (l, arith); grown = refl })); only = tt }
 
 -- whatever these vectors are, by their bytes
@@ -142,10 +147,10 @@ module _ (none of_x of_o : Vec ℕ)
         ∷ (events.Due 2, outcomes.Due (Ok 1)) ∷ (events.Save 0, outcomes.Saved 1) ∷ [];
     run = (
       two_nodes (Some fresh) None empty_slots,
-      (None, kept empty_slots 0 0 0, kept empty_slots 0 2 0, referee_with (two_nodes None None empty_slots) (Some fresh), _, refl, begins, ([], None ∷ [], refl, refl), refl),
+      (None, kept empty_slots 0 0 0, kept empty_slots 0 2 0, referee_with (two_nodes None None empty_slots) (Some fresh), _, read_now (two_nodes None None empty_slots) [], begins, ([], None ∷ [], refl, refl), refl),
       (
         two_nodes (Some fresh) (Some fresh) empty_slots,
-        (None, kept empty_slots 0 0 0, kept empty_slots 0 2 0, referee_with (two_nodes None None empty_slots) (Some fresh), _, refl, begins, (Some fresh ∷ [], [], refl, refl), refl),
+        (None, kept empty_slots 0 0 0, kept empty_slots 0 2 0, referee_with (two_nodes None None empty_slots) (Some fresh), _, read_now (two_nodes (Some fresh) None empty_slots) (two_nodes None None empty_slots ∷ []), begins, (Some fresh ∷ [], [], refl, refl), refl),
         (
           two_nodes (Some (holding x_opens)) (Some fresh) empty_slots,
           (
@@ -188,9 +193,9 @@ module _ (none of_x of_o : Vec ℕ)
   }
 
   -- the other saves, and is refused: the slots stay, and it is down
-  pub second_is_refused : NodeActs one_saved_node (events.Save 0) outcomes.SaveFault
+  pub second_is_refused : (moments : List SharedNodes) → NodeActs moments one_saved_node (events.Save 0) outcomes.SaveFault
       (two_nodes (Some (referee_after_save (holding x_opens) 1)) None x_slots)
-  second_is_refused = (
+  second_is_refused moments = (
     Some (holding o_opens),
     kept x_slots 1 2 0,
     record (kept x_slots 2 2 1) { written = Err Failed },

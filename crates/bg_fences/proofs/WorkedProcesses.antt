@@ -22,6 +22,7 @@ use Rattle.bg_world.specs.declared.events.Outcome.TheVariants as outcomes
 use Rattle.bg_fences.specs.SharedMatches.{RefereeProcess, SharedMatch}
 use Rattle.bg_fences.specs.ProcessCalls.{RefereeSaves}
 use Rattle.bg_fences.specs.ProcessRuns.{IsReachedByProcesses, no_process}
+use Rattle.bg_fences.proofs.Lists.{head_in, tail_in}
 
 abbrev pub one_point : Terms
 one_point = terms_of 1 rules.One
@@ -106,10 +107,10 @@ two_referees_differ = record {
       ∷ (events.Due 2, outcomes.Due (Ok 1)) ∷ (events.Save 0, outcomes.Saved 1) ∷ [];
   run = (
     record nobody { referees = holds [] 0 0 ∷ [] },
-    refl,
+    (nobody, head_in nobody [], refl),
     (
       with_both (holds [] 0 0) (holds [] 0 0),
-      refl,
+      (nobody, tail_in (record nobody { referees = holds [] 0 0 ∷ [] }) nobody (nobody ∷ []) (head_in nobody []), refl),
       (
         with_both (holds (x_opens ∷ []) 0 0) (holds [] 0 0),
         (holds [] 0 0, _, (x_opens, x_due, refl, refl), (_, ([], holds [] 0 0 ∷ [], refl, refl), refl)),

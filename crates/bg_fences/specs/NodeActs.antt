@@ -1,11 +1,12 @@
 -- The calls of nodes over one network and one store, and runs of them.
-use Rattle.std.specs.Prelude.{◌≡◌, ℕ, ◌+◌, ◌<◌, ⊤, Option, None, List, [], ◌∷◌, replicate}
+use Rattle.std.specs.Prelude.{◌≡◌, ℕ, ◌+◌, ◌<◌, ⊤, Option, None, List, [], ◌∷◌, replicate, Contains}
 use Rattle.bg_board.specs.declared.players.Player.{Player}
 use Rattle.bg_match.specs.Terms.{Terms}
 use Rattle.bg_party.specs.Claims.{WatcherTicks}
 use Rattle.bg_party.specs.Views.{SeatView, WatcherView, fresh_watcher}
 use Rattle.bg_referee.specs.Referee.{RefereeView}
 use Rattle.bg_wire.specs.Entries.Codes.{first_watcher}
+use Rattle.bg_wire.specs.Saved.SlotLaws.{Slots}
 use Rattle.bg_world.specs.Devices.LinkCalls.{FollowerTakeCalls, FollowerTickCalls}
 use Rattle.bg_world.specs.Protocol.Roles.{role}
 use Rattle.bg_world.specs.Protocol.Slots.{empty_slots}
@@ -128,27 +129,47 @@ NodeTicks m (roles.Watcher index) o n =
     WatcherOverLink m index
     (λ old core new after. FollowerTickCalls WatcherTicks ⊤ (all_parties m) old core o new after) n
 
--- a node begins, or begins again; a watcher is one node more
-abbrev pub NodeRestarts : SharedNodes → Role → Outcome → SharedNodes → Type 0
-NodeRestarts m roles.Referee o n =
-    RefereeOverStore m (λ old node new after. RefereeNodeRestarts ⊤ old node o new after) n
-NodeRestarts m (roles.Seat q) o n =
-    SeatOverStore m q (λ old node new after. SeatNodeRestarts ⊤ old node o new after) n
-NodeRestarts m (roles.Watcher index) o n =
+-- A restart reads slot 0 as it was at one of these moments, and slot 1 as it was at one, whichever
+-- of the two is the later. So other nodes may save between the two reads, and what is read may lag
+-- behind.
+abbrev pub AreReadOf : {M : Type 0} → (M → Slots) → List M → Slots → Type 0
+AreReadOf {M} slots moments read =
+    (a : M) × (b : M) × Contains moments a × Contains moments b
+    × (read ≡ record { zero = (slots a).zero; one = (slots b).one })
+
+-- a node begins, or begins again, and the store stays; a watcher is one node more
+abbrev pub NodeRestarts : List SharedNodes → SharedNodes → Role → Outcome → SharedNodes → Type 0
+NodeRestarts moments m roles.Referee o n =
+    (core : Option RefereeView) × (old : KeeperView) × (new : KeeperView)
+    × (after : RefereeNodeView) × (cores : List (Option RefereeView))
+    × AreReadOf (λ past. past.referee_slots) moments old.slots
+    × RefereeNodeRestarts ⊤ old (referee_with m core) o new after
+    × Becomes m.referees core (after.core ∷ []) cores
+    × (n ≡ record m { referees = cores })
+NodeRestarts moments m (roles.Seat q) o n =
+    (core : Option SeatView) × (old : KeeperView) × (new : KeeperView)
+    × (after : SeatNodeView) × (cores : List (Option SeatView))
+    × AreReadOf (λ past. slots_of past q) moments old.slots
+    × SeatNodeRestarts ⊤ old (seat_with m q core) o new after
+    × Becomes (cores_of m q) core (after.core ∷ []) cores
+    × (n ≡ with_seat_nodes m q cores (slots_of m q))
+NodeRestarts moments m (roles.Watcher index) o n =
     (o ≡ outcomes.Restarted) × (index < m.watchers)
     × (n ≡ record m {
       watching = fresh_watcher (first_watcher + index) m.id m.terms ∷ m.watching;
     })
 
-abbrev pub NodeActs : SharedNodes → Event → Outcome → SharedNodes → Type 0
-NodeActs m (events.Due word) o n =
+-- some node of the party that the event names makes the call that the event is; the moments are
+-- those of the match so far, this one too
+abbrev pub NodeActs : List SharedNodes → SharedNodes → Event → Outcome → SharedNodes → Type 0
+NodeActs moments m (events.Due word) o n =
     RefereeAlone m (λ node after. RefereeNodeDues node word o after) n
-NodeActs m (events.Take party pick word) o n = NodeTakes m (role party) pick word o n
-NodeActs m (events.Choose q action) o n =
+NodeActs moments m (events.Take party pick word) o n = NodeTakes m (role party) pick word o n
+NodeActs moments m (events.Choose q action) o n =
     SeatAlone m q (λ node after. SeatNodeChooses node action o after) n
-NodeActs m (events.Save party) o n = NodeSaves m (role party) o n
-NodeActs m (events.Tick party) o n = NodeTicks m (role party) o n
-NodeActs m (events.Restart party) o n = NodeRestarts m (role party) o n
+NodeActs moments m (events.Save party) o n = NodeSaves m (role party) o n
+NodeActs moments m (events.Tick party) o n = NodeTicks m (role party) o n
+NodeActs moments m (events.Restart party) o n = NodeRestarts moments m (role party) o n
 
 -- ---- runs
 
@@ -169,10 +190,12 @@ no_node_begun id terms watchers referees xs os = record {
   watching = [];
 }
 
--- calls with what they came to, each from what the one before left
-abbrev pub NodesRun : SharedNodes → List (Event × Outcome) → SharedNodes → Type 0
-NodesRun m [] n = n ≡ m
-NodesRun m (h ∷ hs) n = (k : SharedNodes) × NodeActs m h.0 h.1 k × NodesRun k hs n
+-- calls with what they came to, each from what the one before left; these moments were before them
+abbrev pub NodesRun : List SharedNodes → SharedNodes → List (Event × Outcome) → SharedNodes →
+    Type 0
+NodesRun before m [] n = n ≡ m
+NodesRun before m (h ∷ hs) n =
+    (k : SharedNodes) × NodeActs (m ∷ before) m h.0 h.1 k × NodesRun (m ∷ before) k hs n
 
 -- some calls lead there from the start of some match, with some numbers of nodes
 pub record IsReachedByNodes (m : SharedNodes) : Type 0 where
@@ -184,4 +207,4 @@ pub record IsReachedByNodes (m : SharedNodes) : Type 0 where
   pub xs : ℕ
   pub os : ℕ
   pub history : List (Event × Outcome)
-  pub run : NodesRun (no_node_begun id terms watchers referees xs os) history m
+  pub run : NodesRun [] (no_node_begun id terms watchers referees xs os) history m

@@ -1,5 +1,5 @@
 -- One call of one process of a match that many share.
-use Rattle.std.specs.Prelude.{◌≡◌, ◌⊎◌, ℕ, ◌+◌, ◌<◌, Option, List, [], ◌∷◌}
+use Rattle.std.specs.Prelude.{◌≡◌, ◌⊎◌, ℕ, ◌+◌, ◌<◌, Option, List, [], ◌∷◌, Contains}
 use Rattle.bg_board.specs.declared.players.Player.{Player}
 use Rattle.bg_match.specs.declared.entries.Entry.{Entry}
 use Rattle.bg_wire.specs.Entries.Codes.{referee, first_watcher}
@@ -139,29 +139,34 @@ ProcessTicks m (AsWatcher index) o n =
     (at_rest m) o v
     × WatcherBecomes (record m { sent = v.sent }) p p.log n
 
--- One process more, which begins with what the slots restore; or none, where reading or memory
--- failed. A process that is killed makes no more calls, so no row is needed for that.
-abbrev pub ProcessBegins : SharedMatch → Role → Outcome → SharedMatch → Type 0
-ProcessBegins m AsReferee outcomes.Restarted n =
-    n ≡ record m { referees = begun_referee m.referee ∷ m.referees }
-ProcessBegins m (AsSeat q) outcomes.Restarted n =
-    n ≡ with_seats m q (begun_seat (stored_of m q) ∷ seats_of m q)
-ProcessBegins m (AsWatcher index) outcomes.Restarted n =
+-- One process more. It begins with what the slots restored at one of these moments, however long
+-- ago that was. Or there is none, where reading or memory failed. A process that is killed makes no
+-- more calls, so no row is needed for that.
+abbrev pub ProcessBegins : List SharedMatch → SharedMatch → Role → Outcome → SharedMatch → Type 0
+ProcessBegins moments m AsReferee outcomes.Restarted n =
+    (past : SharedMatch) × Contains moments past
+    × (n ≡ record m { referees = begun_referee past.referee ∷ m.referees })
+ProcessBegins moments m (AsSeat q) outcomes.Restarted n =
+    (past : SharedMatch) × Contains moments past
+    × (n ≡ with_seats m q (begun_seat (stored_of past q) ∷ seats_of m q))
+ProcessBegins moments m (AsWatcher index) outcomes.Restarted n =
     (index < m.watchers)
     × (n ≡ record m { watching = record { index = index; log = [] } ∷ m.watching })
-ProcessBegins m r o n = n ≡ m
+ProcessBegins moments m r o n = n ≡ m
 
--- some process of the party that the event names makes the call that the event is
-abbrev pub ProcessCalls : SharedMatch → Event → Outcome → SharedMatch → Type 0
-ProcessCalls m (events.Due word) o n =
+-- some process of the party that the event names makes the call that the event is; the moments are
+-- those of the match so far, this one too
+abbrev pub ProcessCalls : List SharedMatch → SharedMatch → Event → Outcome → SharedMatch → Type 0
+ProcessCalls moments m (events.Due word) o n =
     (p : RefereeProcess) × (v : ProtocolState) × DueStep (seen_by_referee m p) word o v
     × RefereeGoes m p v n
-ProcessCalls m (events.Take party pick word) o n = ProcessTakes m (role party) word o n
-ProcessCalls m (events.Choose q action) o n =
+ProcessCalls moments m (events.Take party pick word) o n = ProcessTakes m (role party) word o n
+ProcessCalls moments m (events.Choose q action) o n =
     (f : SeatProcess) × (new : SeatState) × (fs : List SeatProcess)
     × ChooseStep m.terms q action o (seat_as_seen (stored_of m q) f) new
     × Becomes (seats_of m q) f (seat_process new f.last_save ∷ []) fs
     × (n ≡ with_seats m q fs)
-ProcessCalls m (events.Save party) o n = ProcessSaves m (role party) o n
-ProcessCalls m (events.Tick party) o n = ProcessTicks m (role party) o n
-ProcessCalls m (events.Restart party) o n = ProcessBegins m (role party) o n
+ProcessCalls moments m (events.Save party) o n = ProcessSaves m (role party) o n
+ProcessCalls moments m (events.Tick party) o n = ProcessTicks m (role party) o n
+ProcessCalls moments m (events.Restart party) o n =
+    ProcessBegins moments m (role party) o n

@@ -27,10 +27,12 @@ no_process id terms watchers = record {
   watching = [];
 }
 
--- calls with what they came to, each from what the one before left
-abbrev pub ProcessesRun : SharedMatch → List (Event × Outcome) → SharedMatch → Type 0
-ProcessesRun m [] n = n ≡ m
-ProcessesRun m (h ∷ hs) n = (k : SharedMatch) × ProcessCalls m h.0 h.1 k × ProcessesRun k hs n
+-- calls with what they came to, each from what the one before left; these moments were before them
+abbrev pub ProcessesRun : List SharedMatch → SharedMatch → List (Event × Outcome) → SharedMatch →
+    Type 0
+ProcessesRun before m [] n = n ≡ m
+ProcessesRun before m (h ∷ hs) n =
+    (k : SharedMatch) × ProcessCalls (m ∷ before) m h.0 h.1 k × ProcessesRun (m ∷ before) k hs n
 
 -- the events of such a run
 abbrev pub events_of : List (Event × Outcome) → List Event
@@ -44,4 +46,4 @@ pub record IsReachedByProcesses (m : SharedMatch) : Type 0 where
   pub watchers : ℕ
   pub setup : IsSetup id terms watchers
   pub history : List (Event × Outcome)
-  pub run : ProcessesRun (no_process id terms watchers) history m
+  pub run : ProcessesRun [] (no_process id terms watchers) history m

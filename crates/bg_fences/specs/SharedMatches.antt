@@ -124,7 +124,7 @@ abbrev pub seat_process : SeatState → ℕ → SeatProcess
 seat_process f save =
     record { log = f.log; claim = f.claim; claim_saved = f.claim_saved; last_save = save }
 
--- it begins with what the slots restore
+-- it begins with what these slots restore
 abbrev pub begun_referee : Stored → RefereeProcess
 begun_referee k =
     referee_process (restored_referee k.slots k.restorable true) (save_in k.restorable)

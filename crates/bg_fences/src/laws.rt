@@ -18,7 +18,8 @@ pub fn fenced_processes_agree()
 {}
 
 /// States the same of nodes, any number for each party, each over honest devices of its own: they
-/// share one network, and one store with such a fence.
+/// share one network, and one store with such a fence. A restart may find each slot as it was at
+/// any earlier moment.
 pub fn fenced_nodes_agree()
     ensures { (m : SharedNodes) → IsReachedByNodes m → (r : Restorable)
         × FencedHeadline (processes_of m r) × HoldsOfNewest (processes_of m r) }
