@@ -16,3 +16,6 @@ pub mod AllNodes
 pub mod WorkedProcesses
 pub mod WorkedControls
 pub mod WorkedNodes
+pub mod FencedWrites
+pub mod FencedSaves
+pub mod WorkedKeepers
