@@ -21,3 +21,6 @@ pub mod WorkedLateProcesses
 pub mod WorkedControls
 pub mod WorkedNodes
 pub mod WorkedLateNodes
+pub mod FencedWrites
+pub mod FencedSaves
+pub mod WorkedKeepers

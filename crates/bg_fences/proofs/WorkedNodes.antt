@@ -39,10 +39,10 @@ abbrev pub kept : Slots → ℕ → ℕ → ℕ → KeeperView
 kept slots writes reads faults =
     record { plan = None; slots = slots; faults = faults; writes = writes; reads = reads; written = Ok tt }
 
-abbrev saved_o : SavedParts
+abbrev pub saved_o : SavedParts
 saved_o = record saved { entries = o_opens ∷ [] }
 
-o_written : IsWrittenText saved_o (written_text saved_o)
+pub o_written : IsWrittenText saved_o (written_text saved_o)
 o_written = record {
   layout = record {
     in_layout = record {

@@ -4,3 +4,6 @@ pub mod ProcessRuns
 pub mod FencedPromises
 pub mod SharedNodes
 pub mod NodeActs
+pub mod FencedWrites
+pub mod ToldNumbers
+pub mod FencedMemory

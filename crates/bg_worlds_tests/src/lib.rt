@@ -1,5 +1,5 @@
-//! Tests of worlds, of their parties by themselves, and of automatic players and their matches, by
-//! what is public of bg_world and bg_auto.
+//! Tests of worlds, of their parties by themselves and in several processes, and of automatic
+//! players and their matches, by what is public of bg_world, bg_fences and bg_auto.
 #![tactic(auto)]
 
 #[cfg(test)]
@@ -10,5 +10,7 @@ mod devices;
 mod players;
 #[cfg(test)]
 mod sections;
+#[cfg(test)]
+mod uses;
 #[cfg(test)]
 mod worlds;

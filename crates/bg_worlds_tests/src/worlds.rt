@@ -5,6 +5,7 @@ mod beginnings;
 mod device_growths;
 mod event_lines;
 mod faults;
+mod fenced_keepers;
 mod fences;
 mod final_texts;
 mod growths;

@@ -1,5 +1,5 @@
 //! Keepers in memory that record what they are asked.
-ghost use Rattle.std.specs.Prelude.{None, length};
+ghost use Rattle.std.specs.Prelude.{◌≡◌, ◌+◌, None, length};
 ghost use Rattle.bg_world.specs.Protocol.Slots.{empty_slots};
 
 use super::Recorder;
@@ -111,6 +111,19 @@ impl<'a> OwnKeeper<'a> {
             faults: History::new(),
             written: Ok(()),
         }
+    }
+
+    /// A write that is refused: nothing is written.
+    pub(crate) fn refuse(&mut self) -> Result<(), DeviceFault>
+        ensures writes { length self.new.writes.bytes ≡ length self.old.writes.bytes + 1 }
+        ensures faults { length self.new.faults.bytes ≡ length self.old.faults.bytes + 1 }
+        ensures reads { self.new.reads ≡ self.old.reads }
+        ensures written { self.new.written ≡ result }
+    {
+        self.writes = self.writes.marked();
+        self.faults = self.faults.marked();
+        self.written = Err(DeviceFault::Failed);
+        self.written
     }
 
     /// The slots have these bytes.

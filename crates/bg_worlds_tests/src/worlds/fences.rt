@@ -3,6 +3,7 @@
 //! party"); without it, or where it has a hole, somebody does not.
 
 mod calls;
+mod holed_keepers;
 mod stores;
 
 use crate::checks::lasting;
@@ -11,23 +12,26 @@ use crate::devices::{NO_FAILURE, Recorder};
 use crate::worlds::growths::is_front;
 use crate::worlds::nodes::below;
 use bg_board::Player;
+use bg_fences::{FencedKeeper, FencedMemoryKeeper};
 use bg_match::Record;
 use bg_wire::{REFEREE, SEAT_OF_O, SEAT_OF_X};
-use bg_world::{RefereeNode, SeatNode};
+use bg_world::{Keepers, RefereeNode, SeatNode};
 use calls::{Call, call_referee, call_seat};
+use holed_keepers::{Hole, HoledKeeper};
+use std::alloc::Global;
 use std::process::Abort;
-use stores::{Fence, Store};
+use stores::Store;
 
 /// The processes of the referee, and their store.
 #[derive(Drop)]
-struct Referees {
-    store: Store,
+struct Referees<K> {
+    store: Store<K>,
     first: RefereeNode,
     second: RefereeNode,
 }
 
-impl Referees {
-    fn new(rt: &impl Abort, mut store: Store) -> Referees {
+impl<K: FencedKeeper> Referees<K> {
+    fn new(rt: &impl Abort, mut store: Store<K>) -> Referees<K> {
         let (first, second) = (store.referee(rt), store.referee(rt));
         Referees {
             store,
@@ -48,15 +52,15 @@ impl Referees {
 
 /// The processes of a seat, and their store.
 #[derive(Drop)]
-struct Seats {
+struct Seats<K> {
     player: Player,
-    store: Store,
+    store: Store<K>,
     first: SeatNode,
     second: SeatNode,
 }
 
-impl Seats {
-    fn new(rt: &impl Abort, player: Player, mut store: Store) -> Seats {
+impl<K: FencedKeeper> Seats<K> {
+    fn new(rt: &impl Abort, player: Player, mut store: Store<K>) -> Seats<K> {
         let (first, second) = (store.seat(rt, player), store.seat(rt, player));
         Seats {
             player,
@@ -92,24 +96,25 @@ fn holds_front(record: Option<&Record>, whole: &Record) -> bool {
 
 /// A match of such processes.
 #[derive(Drop)]
-struct Processes {
+struct Processes<K> {
     link: OwnLink<'static>,
-    referees: Referees,
-    x: Seats,
-    o: Seats,
+    referees: Referees<K>,
+    x: Seats<K>,
+    o: Seats<K>,
     /// A process of the referee that only restarts: it holds what is settled.
     settled: RefereeNode,
 }
 
-impl Processes {
-    fn begin(rt: &impl Abort, recorder: &'static Recorder, fence: Fence) -> Processes {
-        let mut store = Store::new(recorder, REFEREE, fence);
+impl<K: FencedKeeper> Processes<K> {
+    fn begin(rt: &impl Abort, recorder: &'static Recorder, keepers: Keepers<K>) -> Processes<K> {
+        let alloc = recorder.alloc;
+        let mut store = Store::new(alloc, keepers.referee);
         let settled = store.referee(rt);
         Processes {
             link: OwnLink::in_order(recorder),
             referees: Referees::new(rt, store),
-            x: Seats::new(rt, Player::X, Store::new(recorder, SEAT_OF_X, fence)),
-            o: Seats::new(rt, Player::O, Store::new(recorder, SEAT_OF_O, fence)),
+            x: Seats::new(rt, Player::X, Store::new(alloc, keepers.x)),
+            o: Seats::new(rt, Player::O, Store::new(alloc, keepers.o)),
             settled,
         }
     }
@@ -160,10 +165,14 @@ struct Came {
 /// No match of one point is over in so many calls.
 const CALLS: u32 = 6000;
 
-/// So many calls at random.
-fn played(rt: &(impl AllocGlobal + Abort), seed: u32, fence: Fence) -> Came {
-    let recorder = Recorder::that_lasts(rt, rt.alloc(), NO_FAILURE);
-    let begun = Processes::begin(rt, recorder, fence);
+/// So many calls at random, over these keepers.
+fn played<K: FencedKeeper + Drop + 'static>(
+    rt: &(impl AllocGlobal + Abort),
+    recorder: &'static Recorder,
+    seed: u32,
+    keepers: Keepers<K>,
+) -> Came {
+    let begun = Processes::begin(rt, recorder, keepers);
     let processes = lasting(rt.alloc(), begun).expect(rt, "memory");
     let (mut seed, mut agreed) = (seed, true);
     for _ in 0..CALLS {
@@ -177,10 +186,28 @@ fn played(rt: &(impl AllocGlobal + Abort), seed: u32, fence: Fence) -> Came {
     }
 }
 
+fn recorder(rt: &(impl AllocGlobal + Abort)) -> &'static Recorder {
+    Recorder::that_lasts(rt, rt.alloc(), NO_FAILURE)
+}
+
+/// A keeper in memory behind a fence, with empty slots.
+fn fenced_keeper(alloc: Global) -> FencedMemoryKeeper {
+    FencedMemoryKeeper::new(alloc, Vec::new(alloc), Vec::new(alloc))
+}
+
+/// Keepers in memory behind fences.
+fn fenced(alloc: Global) -> Keepers<FencedMemoryKeeper> {
+    Keepers {
+        referee: fenced_keeper(alloc),
+        x: fenced_keeper(alloc),
+        o: fenced_keeper(alloc),
+    }
+}
+
 #[test]
 fn processes_behind_a_fence(rt: HostRuntime) {
     for seed in 0..6 {
-        let came = played(&rt, seed, Fence::Next);
+        let came = played(&rt, recorder(&rt), seed, fenced(rt.alloc()));
         assert!(rt; came.agreed, "seed {seed}");
         assert!(rt;
             came.settled > 9 && came.refused > 9,
@@ -191,11 +218,21 @@ fn processes_behind_a_fence(rt: HostRuntime) {
     }
 }
 
+/// Keepers whose fences have a hole.
+fn holed(recorder: &'static Recorder, hole: Hole) -> Keepers<HoledKeeper> {
+    Keepers {
+        referee: HoledKeeper::new(recorder, REFEREE, hole),
+        x: HoledKeeper::new(recorder, SEAT_OF_X, hole),
+        o: HoledKeeper::new(recorder, SEAT_OF_O, hole),
+    }
+}
+
 /// In how many of six matches somebody held what was not settled.
-fn differing(rt: &(impl AllocGlobal + Abort), fence: Fence) -> u32 {
+fn differing(rt: &(impl AllocGlobal + Abort), hole: Hole) -> u32 {
     let mut differing = 0u32;
     for seed in 0..6 {
-        if !played(rt, seed, fence).agreed {
+        let recorder = recorder(rt);
+        if !played(rt, recorder, seed, holed(recorder, hole)).agreed {
             differing = differing.saturating_add(1);
         }
     }
@@ -204,8 +241,8 @@ fn differing(rt: &(impl AllocGlobal + Abort), fence: Fence) -> u32 {
 
 #[test]
 fn processes_without_a_fence(rt: HostRuntime) {
-    for fence in [Fence::Open, Fence::Equal] {
-        let differing = differing(&rt, fence);
-        assert!(rt; differing > 0, "{fence:?}: {differing} of 6 matches");
+    for hole in [Hole::Any, Hole::Equal] {
+        let differing = differing(&rt, hole);
+        assert!(rt; differing > 0, "{hole:?}: {differing} of 6 matches");
     }
 }

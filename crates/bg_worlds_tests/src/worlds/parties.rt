@@ -9,7 +9,8 @@ use bg_board::Player;
 use bg_match::{Action, LengthFault, Number, Record, Rules, Terms};
 use bg_wire::FIRST_WATCHER;
 use bg_world::{
-    Event, FailRead, FailSend, Outcome, RefereeNode, Role, SeatNode, Tear, WatcherNode, WorldFault,
+    Event, FailRead, FailSend, Keeper, Outcome, RefereeNode, Role, SeatNode, Tear, WatcherNode,
+    WorldFault,
 };
 use std::alloc::Global;
 use std::process::Abort;
@@ -63,20 +64,20 @@ pub(crate) struct Parties {
 }
 
 /// A referee that begins over the slots of its keeper, and what that came to.
-pub(crate) fn begun_referee(
+pub(crate) fn begun_referee<K: Keeper>(
     alloc: Global,
     terms: Terms,
-    keeper: &mut OwnKeeper,
+    keeper: &mut K,
 ) -> Result<(RefereeNode, Outcome), LengthFault> {
     RefereeNode::begin(alloc, ID, terms, keeper)
 }
 
 /// A seat that begins over the slots of its keeper, and what that came to.
-pub(crate) fn begun_seat(
+pub(crate) fn begun_seat<K: Keeper>(
     alloc: Global,
     player: Player,
     terms: Terms,
-    keeper: &mut OwnKeeper,
+    keeper: &mut K,
 ) -> Result<(SeatNode, Outcome), LengthFault> {
     SeatNode::begin(alloc, player, ID, terms, keeper)
 }

@@ -3,8 +3,9 @@ use super::stores::Store;
 use crate::devices::links::OwnLink;
 use bg_auto::auto_action;
 use bg_board::Player;
+use bg_fences::FencedKeeper;
 use bg_match::Action;
-use bg_world::{Outcome, RefereeNode, SeatNode};
+use bg_world::{RefereeNode, SeatNode};
 use std::alloc::Global;
 use std::process::Abort;
 
@@ -33,21 +34,10 @@ impl Call {
     }
 }
 
-/// A process of the referee saves. Whether it did.
-fn save_referee(node: &mut RefereeNode, store: &mut Store) -> bool {
-    match node.begin_save() {
-        Ok(save) => {
-            let written = store.write(&save);
-            matches!(node.end_save(save.number, written), Some(Outcome::Saved(_)))
-        }
-        Err(_) => false,
-    }
-}
-
 /// A process of the referee does something. Whether it saved.
-pub(super) fn call_referee(
+pub(super) fn call_referee<K: FencedKeeper>(
     node: &mut RefereeNode,
-    store: &mut Store,
+    store: &mut Store<K>,
     link: &mut OwnLink<'static>,
     call: Call,
     word: u32,
@@ -57,17 +47,9 @@ pub(super) fn call_referee(
         Call::Tick => drop(node.tick(link, PARTIES)),
         Call::Act => drop(node.due(word)),
         Call::Restart => drop(node.restart(&mut store.keeper)),
-        Call::Save => return save_referee(node, store),
+        Call::Save => return store.save_referee(node),
     }
     false
-}
-
-/// A process of a seat saves.
-fn save_seat(node: &mut SeatNode, store: &mut Store) {
-    if let Ok(save) = node.begin_save() {
-        let written = store.write(&save);
-        drop(node.end_save(save.number, written));
-    }
 }
 
 /// What the automatic player of a seat does now.
@@ -76,17 +58,17 @@ fn action_of(rt: &impl Abort, alloc: Global, node: &SeatNode, player: Player) ->
 }
 
 /// The automatic player of a seat acts.
-fn choose(rt: &impl Abort, node: &mut SeatNode, store: &Store, player: Player) {
-    if let Some(action) = action_of(rt, store.alloc, node, player) {
+fn choose(rt: &impl Abort, alloc: Global, node: &mut SeatNode, player: Player) {
+    if let Some(action) = action_of(rt, alloc, node, player) {
         drop(node.choose(action));
     }
 }
 
 /// A process of a seat does something.
-pub(super) fn call_seat(
+pub(super) fn call_seat<K: FencedKeeper>(
     rt: &impl Abort,
     node: &mut SeatNode,
-    store: &mut Store,
+    store: &mut Store<K>,
     link: &mut OwnLink<'static>,
     player: Player,
     call: Call,
@@ -94,8 +76,8 @@ pub(super) fn call_seat(
     match call {
         Call::Take(pick) => drop(node.take(link, pick)),
         Call::Tick => drop(node.tick(link, PARTIES)),
-        Call::Act => choose(rt, node, store, player),
+        Call::Act => choose(rt, store.alloc, node, player),
         Call::Restart => drop(node.restart(&mut store.keeper)),
-        Call::Save => save_seat(node, store),
+        Call::Save => store.save_seat(node),
     }
 }

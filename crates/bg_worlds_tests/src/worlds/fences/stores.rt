@@ -1,69 +1,27 @@
-//! The store of the processes of a party, with a fence or without one.
-use crate::devices::Recorder;
-use crate::devices::keepers::OwnKeeper;
+//! The store of a party, which its processes share: a keeper with a fence.
 use crate::worlds::parties::{TERMS, begun_referee, begun_seat};
 use bg_board::Player;
-use bg_world::{DeviceFault, Keeper, RefereeNode, Save, SeatNode};
+use bg_fences::{FencedKeeper, save_referee, save_seat};
+use bg_world::{Outcome, RefereeNode, SeatNode};
 use std::alloc::Global;
 use std::process::Abort;
 
-/// Which saves a store takes.
-#[derive(Clone, Copy, Debug)]
-pub(super) enum Fence {
-    /// One whose number is one more than that of the newest.
-    Next,
-    /// That, or one with the number of the newest: a fence with a hole.
-    Equal,
-    /// Any: there is no fence.
-    Open,
-}
-
-/// Whether a number is one more than that of the newest save.
-fn is_next(number: u32, newest: u32) -> bool {
-    newest.checked_add(1) == Some(number)
-}
-
-impl Fence {
-    /// Whether the store takes a save of this number behind the newest one.
-    fn takes(self, number: u32, newest: u32) -> bool {
-        match self {
-            Fence::Next => is_next(number, newest),
-            Fence::Equal => is_next(number, newest) || number == newest,
-            Fence::Open => true,
-        }
-    }
-}
-
-/// The store of a party: its slots, and the number of the newest save in them, 0 before the first.
+/// The store of a party.
 #[derive(Drop)]
-pub(super) struct Store {
+pub(super) struct Store<K> {
     pub(super) alloc: Global,
-    pub(super) keeper: OwnKeeper<'static>,
-    fence: Fence,
-    newest: u32,
+    pub(super) keeper: K,
     /// How many saves it has refused.
     pub(super) refused: u32,
 }
 
-impl Store {
-    pub(super) fn new(recorder: &'static Recorder, party: u8, fence: Fence) -> Store {
+impl<K: FencedKeeper> Store<K> {
+    pub(super) fn new(alloc: Global, keeper: K) -> Store<K> {
         Store {
-            alloc: recorder.alloc,
-            keeper: OwnKeeper::empty(recorder, party),
-            fence,
-            newest: 0,
+            alloc,
+            keeper,
             refused: 0,
         }
-    }
-
-    /// What becomes of a save.
-    pub(super) fn write(&mut self, save: &Save) -> Result<(), DeviceFault> {
-        if !self.fence.takes(save.number, self.newest) {
-            self.refused = self.refused.saturating_add(1);
-            return Err(DeviceFault::Failed);
-        }
-        self.newest = self.newest.max(save.number);
-        self.keeper.write(save.slot, save.text.as_slice())
     }
 
     /// A process of the referee that begins over it.
@@ -77,4 +35,32 @@ impl Store {
         let begun = begun_seat(self.alloc, player, TERMS, &mut self.keeper);
         begun.expect(rt, "a length").0
     }
+
+    /// A process of the referee saves. Whether it did.
+    pub(super) fn save_referee(&mut self, node: &mut RefereeNode) -> bool {
+        let outcome = save_referee(node, &mut self.keeper);
+        self.took(&outcome)
+    }
+
+    /// A process of a seat saves.
+    pub(super) fn save_seat(&mut self, node: &mut SeatNode) {
+        let outcome = save_seat(node, &mut self.keeper);
+        self.took(&outcome);
+    }
+
+    /// Whether a save was taken.
+    fn took(&mut self, outcome: &Outcome) -> bool {
+        if is_refused(outcome) {
+            self.refused = self.refused.saturating_add(1);
+        }
+        is_taken(outcome)
+    }
+}
+
+fn is_refused(outcome: &Outcome) -> bool {
+    matches!(outcome, Outcome::SaveFault)
+}
+
+fn is_taken(outcome: &Outcome) -> bool {
+    matches!(outcome, Outcome::Saved(_))
 }

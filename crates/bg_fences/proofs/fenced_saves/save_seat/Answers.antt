@@ -1,0 +1,9 @@
+use Rattle.bg_world.specs.Worlds.Nodes.{seat_node_of}
+use Rattle.bg_fences.proofs.FencedSaves.{seat_saves}
+use Rattle.bg_fences.proofs.fenced_saves.save_seat.Goals as goal
+
+pub returns-in-Ok-clause-saves : goal.returns-in-Ok-clause-saves
+returns-in-Ok-clause-saves g c =
+    let ends = rw c.unwrap.ensures at c.end_save.ensures.ends in
+    seat_saves _ _ _ c.in-Ok.save _ _ (seat_node_of c.args.seat.now) (seat_node_of c.begin_save.new.self) (seat_node_of c.end_save.new.self)
+    c.begin_save.ensures.same c.in-Ok.ensures.begins c.write_save-written.ensures.writes ends.1

@@ -1,0 +1,29 @@
+//! Keepers that have a fence.
+ghost use Rattle.bg_world.specs.Devices.DeviceCalls.{WritesOnce};
+ghost use Rattle.bg_world.specs.Worlds.Views.{keeper_view};
+ghost use Rattle.bg_fences.specs.FencedWrites.{IsBegunSave, IsWriteFenced};
+
+use bg_world::{DeviceFault, Keeper, Save};
+
+/// A keeper behind a fence, which any number of processes of a party may share
+/// (docs/PROTOCOL.md, "Many processes of one party"). Nodes save over it by
+/// [`save_referee`](crate::save_referee) and [`save_seat`](crate::save_seat). Their own call `save`
+/// writes by [`Keeper::write`], of which no fence is promised here.
+pub trait FencedKeeper: Keeper {
+    /// The fence is kept: a save is taken only where its number is one more than that of the save
+    /// that the slots restore. A store of which nothing can be proved doesn't claim it.
+    ghost is_fenced: { Type 0 };
+
+    /// Writes the text of a save to its slot, where the save is the next one. Nothing comes between
+    /// the check and the write, whatever other processes do.
+    ///
+    /// # Errors
+    /// `Failed` where the save is not the next one, and then nothing is written. Else as
+    /// [`Keeper::write`]: only the next save may be torn.
+    fn write_save(&mut self, save: &Save) -> Result<(), DeviceFault>
+        requires { IsBegunSave save.now }
+        ensures writes { WritesOnce Self.is_honest (keeper_view Self.Keeper self.old) save.now.slot save.now.text.items
+            result (keeper_view Self.Keeper self.new) }
+        ensures fence { is_fenced →
+            IsWriteFenced (Self.slots self.old) save.now.number result (Self.slots self.new) };
+}
