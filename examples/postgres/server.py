@@ -121,28 +121,35 @@ def save(store, tables):
     return len(saves) - len(taken)
 
 
+def play_turn(store, turn, told):
+    """Lets the parties of some matches act, saves at once all that changed, and only then tells it. Returns how many saves
+    were refused."""
+    refused = 0
+    for step in (Table.referee_adds, lambda table: [table.act(seat) for seat in SEATS]):
+        for table in turn:
+            step(table)
+        refused += save(store, turn)
+    # Ticks carry claims to the referee, whose entries are saved before they are told at the next tick.
+    for _ in range(2):
+        for table in turn:
+            table.tick()
+        refused += save(store, turn)
+    for table in turn:
+        os.write(told, table.newly_told().encode())
+    return refused
+
+
 def serve(store, told):
-    """Takes turns until all matches are over, and returns how many saves were refused. In a turn the parties of some
-    matches act; then all that changed is saved at once; and only then it is told."""
+    """Takes turns until all matches are over, and returns how many saves were refused."""
     tables, refused = {}, 0
     while matches := store.open_matches():
         chosen = random.sample(matches, min(MATCHES_A_TURN, len(matches)))
         for match in chosen:
-            tables.setdefault(match[0], None)
-            if tables[match[0]] is None:
+            if match[0] not in tables:
                 tables[match[0]] = Table(store, match)
         turn = [tables[match[0]] for match in chosen]
-        for step in (Table.referee_adds, lambda table: [table.act(seat) for seat in SEATS]):
-            for table in turn:
-                step(table)
-            refused += save(store, turn)
-        # Ticks carry claims to the referee, whose entries are saved before they are told at the next tick.
-        for _ in range(2):
-            for table in turn:
-                table.tick()
-            refused += save(store, turn)
+        refused += play_turn(store, turn, told)
         for table in turn:
-            os.write(told, table.newly_told().encode())
             if table.is_over():
                 store.end(table.match.id)
                 table.close()
