@@ -2,9 +2,12 @@
 # and failed. Who sets a trap of its own at the end calls clear_parts there.
 passed=0
 failed=0
+faulty=()
 table=()
 output=$(mktemp)
-# Of the parts that run side by side: what each is, the process that runs it, and the folder for what they print.
+# Of the parts that run side by side: how many do at once, what each is, the process that runs it, and the folder for what
+# they print.
+most_at_once=$(nproc)
 begun=()
 runners=()
 prints=$(mktemp -d)
@@ -25,6 +28,7 @@ row() {
 # count NAME STATUS FILE (counts what a part did that ended with this status: the last line of what it printed is 'N
 # passed, M failed'; status 77 says that it was left out)
 count() {
+    local before=$failed
     if [ "$2" = 77 ]; then
         echo "$1 was left out"
     elif [[ $(tail -n 1 "$3") =~ ^([0-9]+)\ passed,\ ([0-9]+)\ failed$ ]]; then
@@ -39,6 +43,7 @@ count() {
         failed=$((failed + 1))
         echo "$1 ended with status $2, and counted nothing"
     fi
+    if [ "$failed" -gt "$before" ]; then faulty+=("failed: $1"); fi
 }
 
 # part COMMAND.. (runs a part, and prints what it prints as it comes)
@@ -59,10 +64,10 @@ run_apart() {
     echo "$status $((SECONDS - began)) $(processor_seconds "$own")" > "$1.ended"
 }
 
-# begin COMMAND.. (runs a part beside those that were begun before it, and waits first where as many run as there are
-# processors. Each has a process group of its own, by which clear_parts ends it. finish_parts says what it came to)
+# begin COMMAND.. (runs a part beside those that were begun before it, and waits first where as many run as may. Each has
+# a process group of its own, by which clear_parts ends it. finish_parts says what it came to)
 begin() {
-    while [ "$(jobs -rp | wc -l)" -ge "$(nproc)" ]; do wait -n; done
+    while [ "$(jobs -rp | wc -l)" -ge "$most_at_once" ]; do wait -n; done
     set -m
     run_apart "$prints/${#begun[@]}" "$@" < /dev/null &
     set +m
@@ -95,12 +100,13 @@ clear_parts() {
     rm -rf "$output" "$prints"
 }
 
-# tell_parts (prints what each part took, and, last, what passed and failed; the status says whether anything failed)
+# tell_parts (prints what each part took, which of them failed, and, last, what passed and failed; the status says whether
+# anything failed)
 tell_parts() {
     printf '%-50s %8s %8s\n' "minutes" "wall" "processor"
     printf '%s\n' "${table[@]}"
     row "all" "$SECONDS" "$(processor_seconds $$)"
-    printf '%s\n' "${table[-1]}"
+    printf '%s\n' "${table[-1]}" "${faulty[@]}"
     echo "$passed passed, $failed failed"
     [ "$failed" -eq 0 ]
 }

@@ -200,7 +200,7 @@ class Typist:
 
 
 def hosts(port):
-    """The addresses of the machine's UDP sockets that have this port."""
+    """The addresses of the machine's UDP sockets that have this port; one may be missed while others are closed."""
     with open("/proc/net/udp", encoding="ascii") as file:
         ends = [line.split()[1].split(":") for line in file.readlines()[1:]]
     return {socket.inet_ntoa(struct.pack("=I", int(host, 16))) for host, at in ends if int(at, 16) == port}

@@ -1,14 +1,19 @@
 """Matches between processes, played by themselves while a driver does something to them; and what their saved texts have
 (docs/FORMATS.md, "Saved files")."""
+import functools
 import os
 import shutil
 import signal
-import socket
 import subprocess
+import sys
 import time
 
-TOP = os.path.realpath(os.path.join(os.path.dirname(os.path.realpath(__file__)), "..", ".."))
-PROGRAM = os.environ.get("BG_RELAY", os.path.join(TOP, "crates", "bg_relay", "out", "bg_relay"))
+sys.dont_write_bytecode = True
+sys.path.insert(0, os.path.join(os.path.dirname(os.path.realpath(__file__)), "..", "checks"))
+
+from ports import free_ports
+from program import PROGRAM, TOP
+
 LENGTHS = [1, 2, 3, 4, 5, 6, 7]
 # For so long a state is waited for that comes at once where the machine is idle, and the end of a match.
 MOST_SECONDS = 3600
@@ -21,15 +26,10 @@ class Wrong(Exception):
     """What was found wrong."""
 
 
-def are_free(port):
-    """Whether no process has a port of the parties of a match whose ports begin here: its referee, players and watchers."""
-    for at in range(port, port + 5):
-        with socket.socket(socket.AF_INET, socket.SOCK_DGRAM) as one:
-            try:
-                one.bind(("127.0.0.1", at))
-            except OSError:
-                return False
-    return True
+@functools.cache
+def port_of_matches():
+    """The first port of each match of a driver, which plays one after the other."""
+    return free_ports(20000, 16)
 
 
 def wait_for(holds, what):
@@ -106,17 +106,10 @@ class Match:
         self.length = LENGTHS[number % len(LENGTHS)]
         self.rules = rng.choice([1, 2])
         os.mkdir(self.top)
-        for _ in range(100):
-            port = rng.randrange(20000, 32000)
-            if not are_free(port):
-                continue
-            done = subprocess.run(
-                [PROGRAM, "new", "--length", str(self.length), "--rules", str(self.rules), "--port", str(port), "--dir",
-                 f"{self.top}/referee"], capture_output=True, check=False)
-            if done.returncode == 0:
-                break
-        else:
-            raise Wrong("no match was made, or no ports are free")
+        words = ["--length", str(self.length), "--rules", str(self.rules), "--port", str(port_of_matches())]
+        done = subprocess.run([PROGRAM, "new", *words, "--dir", f"{self.top}/referee"], capture_output=True, check=False)
+        if done.returncode != 0:
+            raise Wrong(f"no match was made: {done.stderr.decode()}")
         self.hand_out()
         self.running, self.waiting, self.done = {}, dict.fromkeys(self.names, 0.0), set()
         self.kills, self.known = 0, b""

@@ -33,8 +33,7 @@ def sheet(pages, folder, width, scheme):
     page.write_text(f"<!DOCTYPE html>{style}\n{LISTEN}{frames}")
     picture = page.with_suffix(".png")
     picture.unlink(missing_ok=True)
-    chromium(page, size, scheme, f"--screenshot={picture}")
-    dump = chromium(page, size, scheme, "--dump-dom")
+    dump = chromium(page, size, scheme, "--dump-dom", f"--screenshot={picture}")
     page.unlink()
     told = dict(json.loads(html.unescape(it)) for it in re.findall(r"<pre[^>]*>(.*?)</pre>", dump, re.S))
     wrong = {name: told.get(name, ["tells nothing"]) for name in pages}

@@ -8,14 +8,15 @@ from parties import MOST_SECONDS
 from processes.running import check, run, start
 from program import PROGRAM
 
-NEW = ("new", "--length", "1", "--port", "5000", "--dir")
+# (a port above all that a check is given, as no match that lies beside may have it)
+NEW = ("new", "--length", "1", "--port", "40000", "--dir")
 
 
 def check_folders(room):
     """Which folders a match can be made in, and which a seat can have."""
     top = room.top
-    check("folders above that are missing", 0, "length 1 rules 1 port 5000", "", *NEW, f"{top}/a/b")
-    for port, told in ((4745, "5000 to 5255"), (5255, "5000 to 5255"), (4744, ""), (5256, "")):
+    check("folders above that are missing", 0, "length 1 rules 1 port 40000", "", *NEW, f"{top}/a/b")
+    for port, told in ((39745, "40000 to 40255"), (40255, "40000 to 40255"), (39744, ""), (40256, "")):
         check(f"a match beside at port {port}", 2 if told else 0, "" if told else f"port {port}",
               f"bg_relay: the match of {top}/a/b/match has the ports {told}: " if told else "", "new", "--length",
               "1", "--port", str(port), "--dir", f"{top}/a/at-{port}")
@@ -31,7 +32,7 @@ def check_folders(room):
     os.mkdir(f"{top}/empty")
     os.symlink(f"{top}/empty", f"{top}/link")
     os.chmod(f"{top}/empty", 0o700)
-    check("a link to a folder", 0, "port 5000", "", *NEW, f"{top}/link")
+    check("a link to a folder", 0, "port 40000", "", *NEW, f"{top}/link")
     check_folders_of_seats(top)
 
 
@@ -60,14 +61,14 @@ def check_told_beside(top):
     """By which path a match beside is told, whatever the folder of the new one is called; and nothing new is left."""
     os.makedirs(f"{top}/beside/empty", 0o700)
     os.symlink(f"{top}/beside/empty", f"{top}/beside-link")
-    words = ["new", "--length", "1", "--port", "5200", "--dir"]
-    check("a match that has one beside it", 0, "port 5000", "", *words[:4], "5000", "--dir", f"{top}/beside/b")
+    words = ["new", "--length", "1", "--port", "40200", "--dir"]
+    check("a match that has one beside it", 0, "port 40000", "", *words[:4], "40000", "--dir", f"{top}/beside/b")
     for at, folder, told in (("beside", "c", "b"), ("beside", "./c/", "./b"), ("beside", "../beside/c", "../beside/b"),
                              ("beside", "empty", "b"), ("beside/empty", ".", f"{top}/beside/b"),
                              (".", "beside/empty/", "beside/b"), (".", "beside/c", "beside/b"),
                              (".", "beside-link", f"{top}/beside/b")):
         done = subprocess.run([PROGRAM, *words, folder], cwd=f"{top}/{at}", capture_output=True, text=True, check=False)
-        said = f"bg_relay: the match of {told}/match has the ports 5000 to 5255: choose a port that is 256 above or below\n"
+        said = f"bg_relay: the match of {told}/match has the ports 40000 to 40255: choose a port that is 256 above or below\n"
         right((done.returncode, done.stdout, done.stderr) == (2, "", said), f"{folder} in {at}: {done}")
     right(sorted(os.listdir(f"{top}/beside")) == ["b", "empty"] and not os.listdir(f"{top}/beside/empty"),
           f"what was refused left {os.listdir(f'{top}/beside')}")

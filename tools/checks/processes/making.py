@@ -72,17 +72,17 @@ def check_called(room):
 
 def check_arguments(top, table):
     """What no match can be made by, and the help of what goes on with one."""
-    check("a second match", 2, "", "has a match already: match", "new", "--length", "1", "--port", "5000", "--dir", table)
+    check("a second match", 2, "", "has a match already: match", "new", "--length", "1", "--port", "40000", "--dir", table)
     for port in ("1023", "65281", "x"):
         check(f"port {port}", 2, "", "--port", "new", "--length", "1", "--port", port, "--dir", f"{top}/other")
-    check("a match to 0 points", 2, "", "--length", "new", "--length", "0", "--port", "5000", "--dir", f"{top}/other")
+    check("a match to 0 points", 2, "", "--length", "new", "--length", "0", "--port", "40000", "--dir", f"{top}/other")
     for command in ("new", "keys", "referee", "play", "act", "auto", "watch"):
         check(f"help of {command}", 0, "bg_relay play --match table/match-o --dir table-o", "", command, "--help")
 
 
 def check_random(top, match):
     """The number of a match and each part of its secret are drawn anew, of all the bits that they have."""
-    other = make(f"{top}/others/table", 5000)
+    other = make(f"{top}/others/table", 40000)
     numbers = [match.number, other.number]
     right(max(numbers) >= 1 << 48, f"the numbers of two matches have few bits: {numbers}")
     right(match.number != other.number, f"two matches have the number {match.number}")
@@ -105,7 +105,7 @@ def check_lock_of_new(room):
     for write, name in enumerate(names, 1):
         folder = f"{room.top}/held-{write}"
         cut = {"LD_PRELOAD": library, "CUT_WRITE": str(write), "CUT_SHARE": "0", "CUT_SIGNAL": str(int(signal.SIGSTOP))}
-        new = start("new", "--length", "1", "--port", "7000", "--dir", folder, environment={**os.environ, **cut})
+        new = start("new", "--length", "1", "--port", "41000", "--dir", folder, environment={**os.environ, **cut})
         right(comes(lambda: has_open(new, f"{folder}/{name}")), f"new does not write {name}")
         right(is_locked(folder), f"new lets the lock of its folder go before it has written {name}")
         end(new)

@@ -63,7 +63,7 @@ def check_full(room):
     right(comes(lambda: os.path.exists(f"{top}/full/x/party-1.1")), f"no choice was saved: {play.screen[-200:]}")
     end(play.process)
     referee.close()
-    new = [PROGRAM, "new", "--length", "1", "--port", "7000", "--dir", f"{top}/full-new"]
+    new = [PROGRAM, "new", "--length", "1", "--port", "41000", "--dir", f"{top}/full-new"]
     done = subprocess.run(new, env=cut, capture_output=True, text=True, check=False, timeout=MOST_SECONDS)
     told = f"bg_relay: {top}/full-new/secret could not be written: {why}, and run this again\n"
     right((done.returncode, done.stderr) == (1, told), f"a match made where there is no room: {done}")

@@ -14,8 +14,7 @@ def check_taken(room):
     """A referee's socket and folder, which no other process can have."""
     top = room.top
     referee = start("referee", "--dir", f"{top}/table")
-    right(comes(lambda: hosts(room.port)), "the referee opens no socket")
-    right(hosts(room.port) == {HOST}, f"the referee listens on {hosts(room.port)}")
+    right(comes(lambda: hosts(room.port) == {HOST}), f"the referee listens on {hosts(room.port)}")
     check("the folder is taken", 1, "", "another process plays over", "referee", "--dir", f"{top}/table")
     told = f"{top}/table is the folder of the referee: give another --dir"
     check("the folder of a referee that runs, for a seat", 2, "", told, "play", "--match", f"{top}/table/match-x", "--dir",
@@ -36,7 +35,8 @@ def check_seats(room):
         folder = f"{top}/seat-{command[0]}"
         seat = start(*command, "--player", "X", *told, "--dir", folder)
         right(referee.hears() == 1, f"the seat of X by {command[0]} does not ask from port {room.port + 1}")
-        right(hosts(room.port + 1) == {HOST}, f"the seat of X by {command[0]} listens on {hosts(room.port + 1)}")
+        right(comes(lambda: hosts(room.port + 1) == {HOST}),
+              f"the seat of X by {command[0]} listens on {hosts(room.port + 1)}")
         check(f"the folder of {command[0]} is taken", 1, "", "another process plays over", "act", "--player", "O",
               "--match", f"{top}/table/match-o", "--dir", folder, "--seconds", "1")
         end(seat)

@@ -11,7 +11,7 @@ from terminals.goings import go_away, sees
 from terminals.kept import TITLE, Kept
 from terminals.kinds import CHOICES, GOINGS, LONG, PARTS, REFUSED
 
-PORT = free_ports(4700, 16)
+PORT = free_ports(5200, 16)
 LONGEST_MATCH = 3600
 
 
