@@ -38,7 +38,7 @@ const HOME_PAGE: &str = r#"<!DOCTYPE html>
 <h2>A new match</h2>
 <form id="new">
 <label>Points <input id="length" type="number" min="1" max="99" value="3" required></label>
-<label>Rules <select id="rules"><option value="1">first rules</option><option value="2">second rules: turns without a move pass by themselves</option></select></label>
+<label>Turns without a move <select id="rules"><option value="1">a click passes (first rules)</option><option value="2">pass at once (second rules)</option></select></label>
 <label>Name of X <input id="x" maxlength="40" autocomplete="off"></label>
 <label>Name of O <input id="o" maxlength="40" autocomplete="off"></label>
 <button class="main">Make the match</button>
