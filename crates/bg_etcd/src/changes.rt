@@ -1,0 +1,110 @@
+//! Changes of folders, and how many of them go into one transaction.
+
+use crate::limits::{MOST_BYTES, MOST_PUTS};
+use std::alloc::{AllocError, Global};
+
+/// A file of the store.
+#[derive(Drop)]
+pub struct File {
+    /// `FOLDER/FILE`.
+    pub name: String,
+    pub text: Vec<u8>,
+    /// The revision at which the store was given the text; 0 where it was not yet.
+    pub revision: u64,
+}
+
+/// The files of a folder that are to have other texts: all of them, or none.
+#[derive(Drop)]
+pub struct Changes {
+    pub folder: String,
+    /// The revision up to which the folder is known: 0 where it is to be new.
+    pub known: u64,
+    pub files: Vec<File>,
+}
+
+impl Changes {
+    /// Returns changes of no file of a folder, which is known up to a revision.
+    ///
+    /// # Errors
+    /// AllocError where there is no memory for its name.
+    pub fn new(alloc: Global, folder: &str, known: u64) -> Result<Changes, AllocError> {
+        Ok(Changes {
+            folder: String::from_str(alloc, folder)?,
+            known,
+            files: Vec::new(alloc),
+        })
+    }
+
+    /// Adds the text of a file, in place of an older one of the same name.
+    ///
+    /// # Errors
+    /// AllocError where there is no memory for it.
+    pub fn put(&mut self, file: File) -> Result<(), AllocError> {
+        let name = file.name.as_str();
+        self.files.retain(|older| older.name.as_str() != name);
+        self.files.push(file)?;
+        Ok(())
+    }
+
+    /// Returns the number of bytes of its texts.
+    pub fn bytes(&self) -> usize {
+        let mut bytes = 0usize;
+        for file in self.files.iter() {
+            bytes = bytes.saturating_add(file.text.len());
+        }
+        bytes
+    }
+
+    /// Returns whether a folder with these files has these changes, and nothing else in it is newer
+    /// than what is known: so they were made, by whomever, and nothing behind them.
+    pub fn are_all_in(&self, files: &[File]) -> bool {
+        self.files.iter().all(|file| has_file(files, file)) && self.has_newer(files)
+    }
+
+    /// Returns whether each of these files that is newer than what is known is among the changes.
+    fn has_newer(&self, files: &[File]) -> bool {
+        for file in files.iter() {
+            if file.revision > self.known && !has_file(&self.files, file) {
+                return false;
+            }
+        }
+        true
+    }
+}
+
+/// Returns whether a file is among others.
+fn has_file(files: &[File], file: &File) -> bool {
+    for other in files.iter() {
+        if other.name.as_str() == file.name.as_str() && other.text == file.text {
+            return true;
+        }
+    }
+    false
+}
+
+/// Cuts changes of folders into transactions.
+#[derive(Clone, Copy, Debug, PartialEq, Eq)]
+pub struct Batches {
+    puts: usize,
+    bytes: usize,
+}
+
+impl Batches {
+    /// Begins a transaction, with no changes yet.
+    pub fn new() -> Batches {
+        Batches { puts: 0, bytes: 0 }
+    }
+
+    /// Adds the changes of a folder to the transaction, if they fit into it with those before;
+    /// returns whether they do. The first ones always do.
+    pub fn take(&mut self, changes: &Changes) -> bool {
+        let puts = self.puts.saturating_add(changes.files.len());
+        let bytes = self.bytes.saturating_add(changes.bytes());
+        let fits = self.puts == 0 || puts <= MOST_PUTS && bytes <= MOST_BYTES;
+        if fits {
+            self.puts = puts;
+            self.bytes = bytes;
+        }
+        fits
+    }
+}

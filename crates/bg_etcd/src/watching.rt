@@ -1,0 +1,79 @@
+//! What a watch tells: a line of JSON for each revision, or for several.
+
+use crate::answers::{bytes_in, name_in, number_in};
+use crate::faults::Fault;
+use serde_json::Value;
+use std::alloc::Global;
+
+/// A change of a file.
+#[derive(Drop)]
+pub struct Event {
+    pub name: String,
+    /// None where the file is gone.
+    pub text: Option<Vec<u8>>,
+    /// The revision of the change. All changes of one transaction have the same.
+    pub revision: u64,
+}
+
+/// What a line of a watch tells.
+#[derive(Drop)]
+pub enum News {
+    /// Changes, in their order; none where the line only says that the watch has begun.
+    Events(Vec<Event>),
+    /// The watch has ended: the revision from which it was to tell is forgotten, or the member
+    /// goes away.
+    Ended,
+}
+
+/// Returns what a line of a watch tells.
+///
+/// # Errors
+/// `Unreadable` where it is none of etcd's; `Memory` where there is none for it.
+pub fn news_in(alloc: Global, line: &[u8]) -> Result<News, Fault> {
+    let Ok(value) = Value::from_slice(alloc, line) else {
+        return Err(Fault::Unreadable);
+    };
+    let Some(told) = value.get("result") else {
+        return Ok(News::Ended);
+    };
+    if told.get("canceled").is_some() {
+        return Ok(News::Ended);
+    }
+    Ok(News::Events(events_in(alloc, told)?))
+}
+
+/// Returns the changes in what a line tells.
+fn events_in(alloc: Global, told: &Value) -> Result<Vec<Event>, Fault> {
+    let mut events = Vec::new(alloc);
+    let Some(list) = told.get("events").and_then(Value::as_array) else {
+        return Ok(events);
+    };
+    for each in list.iter() {
+        if let Some(event) = event_in(alloc, each)? {
+            if events.push(event).is_err() {
+                return Err(Fault::Memory);
+            }
+        }
+    }
+    Ok(events)
+}
+
+/// Returns the change in an object; None where it is of another's key.
+fn event_in(alloc: Global, value: &Value) -> Result<Option<Event>, Fault> {
+    let Some(pair) = value.get("kv") else {
+        return Err(Fault::Unreadable);
+    };
+    let Some(name) = name_in(alloc, pair)? else {
+        return Ok(None);
+    };
+    // A put has no type, since that is the type number 0.
+    let text = match value.get("type") {
+        Some(_) => None,
+        None => Some(bytes_in(alloc, pair, "value")?),
+    };
+    Ok(Some(Event {
+        name,
+        text,
+        revision: number_in(pair, "mod_revision"),
+    }))
+}
