@@ -1,8 +1,9 @@
 //! What the operator of a server changes of its matches while it runs.
 
 use crate::peers::Peer;
+use crate::quiet::Quiet;
 use crate::sites::Site;
-use crate::stores::Store;
+use crate::stores::{Found, Store};
 use bg_requests::Seats;
 use bg_system::Names;
 use bg_world::Keeper;
@@ -61,6 +62,37 @@ impl<K: Keeper + Drop, S: Store<K> + Drop> Site<K, S> {
             place.change(changed);
         }
         true
+    }
+
+    /// Takes in a match that another server has made, or has gone on with: it goes on from what its
+    /// keepers have now, and those who look at it are shown it anew. Returns false where there is no
+    /// room or no memory for it: then nothing changes.
+    pub fn replace(&mut self, found: Found<K>) -> bool {
+        let Some(index) = self.by_name(found.name.as_str()) else {
+            return self.open(found);
+        };
+        let (news, minute) = (self.note_news(), self.patience.now);
+        let Some(place) = self.places.get_mut(index) else {
+            return false;
+        };
+        let was_live = place.is_live();
+        if !place.replace(self.alloc, found) {
+            return false;
+        }
+        place.news = news;
+        place.quiet = Quiet::broken(minute);
+        if was_live && !place.is_live() {
+            self.counts.note_end();
+        }
+        true
+    }
+
+    /// Returns the name of the match that a peer looks at.
+    pub fn name_of(&self, peer: &Peer) -> Option<&str> {
+        match self.places.get(peer.place?) {
+            Some(place) => Some(place.name.as_str()),
+            None => None,
+        }
     }
 
     /// Lets go of a match that the operator has deleted; returns whether there was such a match.

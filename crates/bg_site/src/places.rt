@@ -1,5 +1,5 @@
 //! A match of the server.
-ghost use Rattle.std.specs.Prelude.{◌≡◌, ◌↔◌, IsSome, IsTrue, None, option_copied};
+ghost use Rattle.std.specs.Prelude.{◌≡◌, ◌↔◌, ◌⊎◌, IsSome, IsTrue, None, option_copied};
 
 use crate::frames::Frames;
 use crate::operating::{Changed, SeatChanges};
@@ -104,6 +104,50 @@ impl<K: Keeper + Drop> Place<K> {
         self.is_hidden = changed.is_hidden;
     }
 
+    /// Takes in what others have made of the match: it goes on from what its keepers have now, and
+    /// all that is shown of it is shown anew. Returns false where there is no memory for that: then
+    /// nothing changes.
+    pub(crate) fn replace(&mut self, alloc: Global, found: Found<K>) -> bool
+        ensures taken { IsTrue result → self.new.seats ≡ found.seats }
+        ensures kept { IsTrue result ⊎ (self.new ≡ self.old) }
+    {
+        let Found {
+            names,
+            id,
+            terms,
+            seats,
+            key,
+            digest,
+            keepers,
+            is_hidden,
+            ..
+        } = found;
+        let Ok(hosted) = HostedMatch::begin(alloc, id, terms, key, keepers) else {
+            return false;
+        };
+        self.change(Changed {
+            names,
+            seats,
+            is_hidden,
+        });
+        self.terms = terms;
+        self.key = key;
+        self.digest = digest;
+        self.hosted = Some(hosted);
+        self.show_anew();
+        true
+    }
+
+    /// Has all that is shown of the match shown anew.
+    fn show_anew(&mut self)
+        ensures { self.new.seats ≡ self.old.seats }
+    {
+        self.summary = Summary::NONE;
+        let _ = self.refresh();
+        self.version = self.version.saturating_add(1);
+        self.frames = Frames::none();
+    }
+
     /// Lets go of the match, which the operator has deleted: nobody has a seat of it any more.
     pub(crate) fn remove(&mut self)
         ensures { self.new.seats ≡ None }
@@ -204,7 +248,9 @@ impl<K: Keeper + Drop> Place<K> {
     }
 
     /// Notes what became visible; returns whether anything did. Lets go of a match that is over.
-    pub(crate) fn refresh(&mut self) -> bool {
+    pub(crate) fn refresh(&mut self) -> bool
+        ensures { self.new.seats ≡ self.old.seats }
+    {
         let Some(hosted) = &self.hosted else {
             return false;
         };

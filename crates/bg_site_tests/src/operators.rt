@@ -1,6 +1,7 @@
 //! What is told of a match's dice, and what an operator changes of a match.
-use crate::keepers::ShelfKeeper;
-use crate::requests::{OneShelf, answer_to, get, lasting_site, order};
+use crate::keepers::{ShelfKeeper, lasting_shelf};
+use crate::requests::{OneShelf, action, answer_to, get, lasting_site, lasting_site_over, order};
+use bg_match::{Rules, Terms};
 use bg_site::{Changed, Seats, Site, digest_of};
 use bg_system::Names;
 use std::process::Abort;
@@ -96,6 +97,39 @@ fn what_an_operator_changes(rt: HostRuntime) {
         !change(site, "of x", "of o", false),
         "what is deleted is not changed"
     );
+}
+
+/// The match `made`, as its shelf has it now, is taken in.
+fn renew(rt: &(impl AllocGlobal + Abort), site: &mut Server<'_>) -> bool {
+    let terms = Terms {
+        length: 1,
+        rules: Rules::One,
+    };
+    let made = site.store().made(terms, Names::none());
+    site.replace(made.expect(rt, "memory").found)
+}
+
+#[test]
+fn a_match_goes_on_from_what_another_site_has_saved(rt: HostRuntime) {
+    let shelf = lasting_shelf(&rt);
+    let (site, other) = (lasting_site_over(&rt, shelf), lasting_site_over(&rt, shelf));
+    check_made(&rt, site);
+    assert!(rt; renew(&rt, other), "a match that is not there yet");
+    // Whoever is on turn offers to resign; of the other it is refused.
+    for secret in ["of x", "of o"] {
+        let _ = answer_to(&rt, site, action(&rt, secret, "2 resign normal"));
+    }
+    check_path(&rt, site, "/matches/made/state", "\"number\":2");
+    check_path(&rt, other, "/matches/made/state", "\"number\":1");
+    assert!(rt; renew(&rt, other), "a match that is behind");
+    check_path(&rt, other, "/matches/made/state", "\"number\":2");
+    check_path(&rt, other, "/matches", "\"names\":[\"\",\"\"]");
+    for secret in ["of x", "of o"] {
+        let _ = answer_to(&rt, other, action(&rt, secret, "3 reject"));
+    }
+    check_path(&rt, other, "/matches/made/state", "\"number\":3");
+    assert!(rt; renew(&rt, site), "a match that is behind");
+    check_path(&rt, site, "/matches/made/state", "\"number\":3");
 }
 
 #[test]

@@ -18,7 +18,11 @@ pub(crate) struct OneShelf<'a> {
 }
 
 impl<'a> OneShelf<'a> {
-    fn made(&self, terms: Terms, names: Names) -> Result<Made<ShelfKeeper<'a>>, AllocError> {
+    pub(crate) fn made(
+        &self,
+        terms: Terms,
+        names: Names,
+    ) -> Result<Made<ShelfKeeper<'a>>, AllocError> {
         let seats = Seats {
             x: digest_of("of x"),
             o: digest_of("of o"),
@@ -57,7 +61,14 @@ impl<'a> Store<ShelfKeeper<'a>> for OneShelf<'a> {
 pub(crate) fn lasting_site<'a>(
     rt: &(impl AllocGlobal + Abort),
 ) -> &'a mut Site<ShelfKeeper<'a>, OneShelf<'a>> {
-    let shelf = lasting_shelf(rt);
+    lasting_site_over(rt, lasting_shelf(rt))
+}
+
+/// A site without matches over a shelf, which lasts as long as the process.
+pub(crate) fn lasting_site_over<'a>(
+    rt: &(impl AllocGlobal + Abort),
+    shelf: &'a Shelf,
+) -> &'a mut Site<ShelfKeeper<'a>, OneShelf<'a>> {
     let alloc = rt.alloc();
     lasting(rt, Site::new(alloc, OneShelf { alloc, shelf }))
 }
@@ -120,6 +131,15 @@ pub(crate) fn order<'a>(rt: &(impl AllocGlobal + Abort), body: &str) -> &'a str 
     let head =
         "POST /matches HTTP/1.1\r\nhost: a\r\ncontent-type: application/json\r\ncontent-length:";
     let text = format!(in rt.alloc(); "{head} {length}\r\n\r\n{body}");
+    let text: &mut String = lasting(rt, text.expect(rt, "memory"));
+    text.as_str()
+}
+
+/// A request that an action is carried out, by who has this secret.
+pub(crate) fn action<'a>(rt: &(impl AllocGlobal + Abort), secret: &str, body: &str) -> &'a str {
+    let length = body.len();
+    let head = "POST /matches/made/actions HTTP/1.1\r\nhost: a\r\nauthorization: Bearer";
+    let text = format!(in rt.alloc(); "{head} {secret}\r\ncontent-length: {length}\r\n\r\n{body}");
     let text: &mut String = lasting(rt, text.expect(rt, "memory"));
     text.as_str()
 }
