@@ -67,6 +67,22 @@ impl Client {
         self.channel.is_some()
     }
 
+    /// Returns whether an answer that waits for it may rest on what one of these matches does. Of
+    /// whom HTTP speaks with, nobody knows which match an answer is about.
+    pub(crate) fn may_rest_on<K: Keeper + Drop, S: Store<K> + Drop>(
+        &self,
+        site: &Site<K, S>,
+        names: &[String],
+    ) -> bool {
+        match &self.channel {
+            Some(channel) => match site.name_of(channel.peer()) {
+                Some(name) => names.iter().any(|other| other.as_str() == name),
+                None => false,
+            },
+            None => self.http.as_ref().is_some_and(|http| http.wants_write()),
+        }
+    }
+
     /// Notes that it is gone.
     pub(crate) fn leave<K: Keeper + Drop, S: Store<K> + Drop>(&self, site: &mut Site<K, S>) {
         if let Some(channel) = &self.channel {

@@ -3,6 +3,7 @@
 use crate::clients::Client;
 use crate::limits::MOST_CLIENTS;
 use crate::servers::{LISTENER, Server};
+use crate::watches::WATCH;
 use bg_site::Step;
 use mio::net::TcpStream;
 use mio::{Interest, Token};
@@ -81,7 +82,7 @@ impl<'a> Server<'a> {
         self.again.clear();
         for event in &self.events {
             let Token(token) = event.token();
-            if token > 0 {
+            if token > 0 && event.token() != WATCH {
                 self.heard.push(token - 1)?;
             }
         }
@@ -107,6 +108,24 @@ impl<'a> Server<'a> {
             self.note(index, step)?;
         }
         Ok(())
+    }
+
+    /// Lets go of the clients that were heard in this turn, and have answers that may rest on what
+    /// one of these matches has not saved.
+    pub(crate) fn drop_answers(&mut self, names: &[String]) {
+        for at in 0..self.heard.len() {
+            let index = match self.heard.get(at) {
+                Some(index) => *index,
+                None => return,
+            };
+            let may_rest = match self.clients.get(index) {
+                Some(Some(client)) => client.may_rest_on(&self.site, names),
+                _ => false,
+            };
+            if may_rest {
+                self.close(index);
+            }
+        }
     }
 
     /// Notes what became of a client.

@@ -1,19 +1,31 @@
 //! The words on databases that can't be used.
 
-use crate::settling::{Unusable, read_mark, settle};
+use crate::cluster_words::is_copy;
+use crate::settling::{CLUSTER, Unusable, read_mark, settle};
 use bg_console::{failed, failed_at, say, wrong};
 use bg_journal::{Error, ErrorCode};
 use bg_processes::Printable;
 use bg_reports::Ending;
 
 /// Brings the files of a folder of matches up to date from the database that it was served with
-/// last, if it was with one. Ends with `Failed` where that can't be done.
-pub(crate) fn settle_first(rt: &HostRuntime, folder: &str) -> Result<(), Ending> {
+/// last, if it was with one. Ends with `Failed` where that can't be done. A copy of what a store has
+/// is used with a store alone.
+pub(crate) fn settle_first(
+    rt: &HostRuntime,
+    folder: &str,
+    database: Option<&str>,
+) -> Result<(), Ending> {
     let mark = match read_mark(rt, folder) {
         Ok(Some(mark)) => mark,
         Ok(None) => return Ok(()),
         Err(error) => return Err(failed_at(rt, folder, "/.database could not be read", &error)),
     };
+    if mark.path.as_str().starts_with(CLUSTER) {
+        return match database {
+            Some(words) if words.starts_with(CLUSTER) => Ok(()),
+            _ => Err(is_copy(rt, folder, mark.path.as_str())),
+        };
+    }
     match settle(rt, folder, &mark) {
         Ok(()) => {
             let path = Printable(mark.path.as_str());

@@ -52,7 +52,7 @@ impl<'a> Database<'a> {
         store: &mut FolderStore<'a>,
     ) -> Result<Database<'a>, Unusable> {
         let owner = begin(rt, folder, path)?;
-        let (saves, counts) = store.gather()?;
+        let (saves, counts) = store.gather(TurnSaves::new(rt.alloc()))?;
         let mut database = Database {
             rt,
             folder,

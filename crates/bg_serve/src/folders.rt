@@ -51,27 +51,18 @@ impl<'a> FolderStore<'a> {
         })
     }
 
-    /// Gathers the saves of each turn from now on, for a database. Returns where, and what counts
-    /// them.
+    /// Gathers the saves of each turn from now on, for a database or a store. Returns where, and
+    /// what counts them.
     ///
     /// # Errors
     /// AllocError where there is no memory for it.
-    pub(crate) fn gather(&mut self) -> Result<(Rc<TurnSaves>, Rc<SaveCounts>), AllocError> {
-        let turn = Rc::new(self.rt.alloc(), TurnSaves::new(self.rt.alloc()))?;
+    pub(crate) fn gather(
+        &mut self,
+        saves: TurnSaves,
+    ) -> Result<(Rc<TurnSaves>, Rc<SaveCounts>), AllocError> {
+        let turn = Rc::new(self.rt.alloc(), saves)?;
         self.turn = Some(turn.clone()?);
         Ok((turn, self.counts.clone()?))
-    }
-
-    /// Notes that the files of a match are gone, or new: what the database has of them doesn't
-    /// count.
-    pub(crate) fn forget(&self, name: &str) -> io::Result<()> {
-        match &self.turn {
-            Some(turn) => match turn.remove(self.rt.alloc(), name) {
-                Ok(()) => Ok(()),
-                Err(_) => Err(io::Error::from(ErrorKind::OutOfMemory)),
-            },
-            None => Ok(()),
-        }
     }
 
     /// Returns the names of all that lies in the folder.

@@ -12,18 +12,29 @@
 
 mod backups;
 mod behind;
+mod catching_up;
 mod changes;
 mod clients;
+mod cluster_words;
+mod clusters;
+mod copies;
 mod crowds;
 mod database_words;
 mod databases;
 mod exchanges;
 mod folders;
+mod joining;
+mod known;
 mod limits;
 mod live_clients;
+mod long_texts;
 mod making;
 pub mod manage;
 mod marks;
+mod members;
+mod news;
+mod notes;
+mod pending;
 mod quotas;
 mod save_counts;
 mod saved_records;
@@ -33,10 +44,13 @@ mod served_files;
 mod served_keepers;
 mod servers;
 mod settling;
+mod sharing;
 mod sockets;
 mod tables;
+mod troubles;
 mod turn_saves;
 mod turns;
+mod watches;
 
 pub use folders::FolderStore;
 pub use limits::{

@@ -54,6 +54,7 @@ impl<'a> FolderStore<'a> {
             names,
         };
         self.write_match(path.as_str(), &file)?;
+        self.note_changed(name.as_str())?;
         self.found(name.as_str(), path.as_str(), file, Some(seats))
     }
 

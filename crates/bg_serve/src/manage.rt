@@ -29,7 +29,7 @@ pub fn run(rt: &HostRuntime, options: ManageOptions<'_>) -> Result<Ending, Endin
     check_of_all(rt, folder)?;
     let lock = lock_unless_served(rt, folder)?;
     if lock.is_some() {
-        settle_first(rt, folder)?;
+        settle_first(rt, folder, None)?;
     }
     let tables = Tables {
         rt,

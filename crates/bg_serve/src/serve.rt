@@ -4,7 +4,8 @@ use crate::database_words::{is_anothers, not_usable, settle_first, tell_outage};
 use crate::databases::Database;
 use crate::folders::FolderStore;
 use crate::servers::Server;
-use crate::settling::Unusable;
+use crate::settling::{CLUSTER, Unusable};
+use crate::sharing::run_shared;
 use crate::sockets::Sockets;
 use crate::tables::check_of_all;
 use bg_console::{failed, failed_or, own_folder, say, say_failures};
@@ -34,8 +35,11 @@ pub fn run(rt: &HostRuntime, options: ServeOptions<'_>) -> Result<Ending, Ending
     } = options;
     check_of_all(rt, folder)?;
     let _lock = own_folder(rt, folder)?;
-    settle_first(rt, folder)?;
+    settle_first(rt, folder, database)?;
     let failures = Failures::new();
+    if let Some(words) = database.filter(|words| words.starts_with(CLUSTER)) {
+        return run_shared(rt, &options, words, &failures);
+    }
     let (mut server, mut database) = match begun(rt, &options, &failures) {
         Ok(begun) => begun,
         Err(why) => return Err(not_begun(rt, port, database.unwrap_or_default(), why)),
@@ -49,7 +53,7 @@ pub fn run(rt: &HostRuntime, options: ServeOptions<'_>) -> Result<Ending, Ending
 }
 
 /// Reports why the matches of a folder can't be served at a port, or with a database.
-fn not_begun(rt: &HostRuntime, port: u16, database: &str, why: Unusable) -> Ending {
+pub(crate) fn not_begun(rt: &HostRuntime, port: u16, database: &str, why: Unusable) -> Ending {
     match why {
         Unusable::File(error) if error.kind() == ErrorKind::AddrInUse => failed(
             rt,
@@ -99,11 +103,22 @@ fn go_on(
             commit(rt, database, options.database.unwrap_or_default())?;
             database.follow(now);
         }
-        tell_counts(rt, made, server.ended(), server.changed());
-        tell_requests(rt, server);
-        say_failures(rt, failures, options.folder);
+        tell_turn(rt, server, made, options.folder, failures);
     }
     Ok(Ending::Served)
+}
+
+/// Says what came of a turn, in which so many matches were made.
+pub(crate) fn tell_turn(
+    rt: &HostRuntime,
+    server: &mut Server<'_>,
+    made: u64,
+    folder: &str,
+    failures: &Failures,
+) {
+    tell_counts(rt, made, server.ended(), server.changed());
+    tell_requests(rt, server);
+    say_failures(rt, failures, folder);
 }
 
 /// Commits what was saved in a turn. Tries it again as long as it fails, and says so.
@@ -122,7 +137,7 @@ fn commit(rt: &HostRuntime, database: &mut Database<'_>, path: &str) -> Result<(
 }
 
 /// Returns what was waited for; reports why the sockets can't be.
-fn waited<T>(rt: &HostRuntime, attempt: io::Result<T>) -> Result<T, Ending> {
+pub(crate) fn waited<T>(rt: &HostRuntime, attempt: io::Result<T>) -> Result<T, Ending> {
     match attempt {
         Ok(value) => Ok(value),
         Err(error) => Err(failed_or(rt, NOT_WAITED, &error, MORE_FILES)),
@@ -130,7 +145,7 @@ fn waited<T>(rt: &HostRuntime, attempt: io::Result<T>) -> Result<T, Ending> {
 }
 
 /// Says what is served, and where.
-fn tell_begin(rt: &HostRuntime, server: &Server<'_>) {
+pub(crate) fn tell_begin(rt: &HostRuntime, server: &Server<'_>) {
     for name in server.left_out() {
         say(
             rt,

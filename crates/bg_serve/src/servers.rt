@@ -156,17 +156,32 @@ impl<'a> Server<'a> {
     fn take_change(&mut self, name: &str) -> io::Result<()> {
         match self.site.store().changed(name) {
             Ok(Some(changed)) => {
-                if !self.site.change(name, changed) && is_name(name) {
-                    self.site.store().forget(name)?;
+                if self.site.change(name, changed) {
+                    return self.site.store().note_changed(name);
+                }
+                if is_name(name) {
+                    self.site.store().note_new(name)?;
                     self.open(name)?;
                 }
                 Ok(())
             }
             Ok(None) => {
                 self.site.remove(name);
-                self.site.store().forget(name)
+                self.site.store().note_gone(name)
             }
             Err(error) => Err(error),
+        }
+    }
+
+    /// Takes in what another server has made of a match, which the folder and the turn have. What
+    /// can't be read isn't served any more, since nobody knows which of it is saved.
+    pub(crate) fn renew(&mut self, name: &str) {
+        let is_there = match self.site.store().find(name) {
+            Ok(Some((found, None))) => self.site.replace(found),
+            _ => false,
+        };
+        if !is_there {
+            self.site.remove(name);
         }
     }
 

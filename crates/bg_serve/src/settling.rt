@@ -19,6 +19,9 @@ const MARK: &str = ".database";
 /// The name under which a database has what says whose it is.
 const OWNER: &str = ".owner";
 
+/// What the words of an option begin with that name a store.
+pub(crate) const CLUSTER: &str = "etcd:";
+
 /// The error where the database is another's, or is not there.
 pub(crate) const NOT_THERE: Error = Error::SqliteFailure(ErrorCode::CannotOpen);
 
@@ -60,7 +63,7 @@ impl From<AllocError> for Unusable {
 /// What a mark says: whose the database is, and where it is.
 #[derive(Drop)]
 pub(crate) struct Mark {
-    owner: Owner,
+    pub(crate) owner: Owner,
     pub(crate) path: String,
 }
 
@@ -170,7 +173,8 @@ pub(crate) fn begin(rt: &HostRuntime, folder: &str, path: &str) -> Result<Owner,
     }
     close_to_others(rt, path)?;
     let owner = random_digits(rt, 16)?;
-    write_mark(rt, folder, path, owner.as_str())?;
+    let whole = fs::canonicalize(rt, path)?;
+    write_mark(rt, folder, whole.as_str(), owner.as_str())?;
     let text = owner.as_bytes().to_vec(rt.alloc())?;
     let name = String::from_str(rt.alloc(), OWNER)?;
     journal.write(&[Change::Put(FileText { name, text })])?;
@@ -184,12 +188,16 @@ fn close_to_others(rt: &HostRuntime, path: &str) -> io::Result<()> {
     fs::set_permissions(rt, log.as_str(), Permissions::from_mode(OWNER_ALONE))
 }
 
-/// Writes the mark of a folder. It is whole at any moment.
-fn write_mark(rt: &HostRuntime, folder: &str, path: &str, owner: &str) -> io::Result<()> {
-    let whole = fs::canonicalize(rt, path)?;
+/// Writes the mark of a folder: whose the database is, and where. It is whole at any moment.
+pub(crate) fn write_mark(
+    rt: &HostRuntime,
+    folder: &str,
+    path: &str,
+    owner: &str,
+) -> io::Result<()> {
     let mark = path_in(rt.alloc(), folder, MARK)?;
     let beside = path_in(rt.alloc(), folder, ".database.new")?;
-    let text = format!(in rt.alloc(); "{owner}\n{}\n", whole.as_str())?;
+    let text = format!(in rt.alloc(); "{owner}\n{path}\n")?;
     write_through(rt, beside.as_str(), text.as_bytes())?;
     fs::rename(rt, beside.as_str(), mark.as_str())?;
     File::open(rt, folder)?.sync_all()

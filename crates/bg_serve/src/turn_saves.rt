@@ -1,6 +1,7 @@
 //! The saves of a turn of the server, which are made durable together.
 
 use crate::behind::Behind;
+use crate::long_texts::LongTexts;
 use bg_console::slot_path;
 use bg_journal::{Change, FileText, Newest, newest_of};
 use bg_wire::Slot;
@@ -15,6 +16,8 @@ use std::rc::Rc;
 pub(crate) struct TurnSaves {
     pub(crate) fresh: RefCell<Vec<Change>>,
     pub(crate) behind: RefCell<Behind>,
+    /// The texts that come near the most that a store takes, where there is one.
+    pub(crate) long: Option<LongTexts>,
 }
 
 impl TurnSaves {
@@ -23,13 +26,39 @@ impl TurnSaves {
         TurnSaves {
             fresh: RefCell::new(Vec::new(alloc)),
             behind: RefCell::new(Behind::new(alloc)),
+            long: None,
+        }
+    }
+
+    /// Creates a turn without saves, of a server that shares its matches.
+    pub(crate) fn shared(alloc: Global) -> TurnSaves {
+        TurnSaves {
+            long: Some(LongTexts::none(alloc)),
+            ..TurnSaves::new(alloc)
         }
     }
 
     /// Adds a change.
-    fn add(&self, change: Change) -> Result<(), DeviceFault> {
+    pub(crate) fn add(&self, change: Change) -> Result<(), DeviceFault> {
         match self.fresh.try_borrow_mut() {
             Ok(mut fresh) => Ok(fresh.push(change)?),
+            Err(_) => Err(DeviceFault::Failed),
+        }
+    }
+
+    /// Adds a save. In a store only the newest of a party in a turn is written, as all that a match
+    /// saves there in a turn is one transaction.
+    fn add_save(&self, other: &str, file: FileText) -> Result<(), DeviceFault> {
+        let Some(long) = &self.long else {
+            return self.add(Change::Put(file));
+        };
+        long.check(file.name.as_str(), file.text.len())?;
+        match self.fresh.try_borrow_mut() {
+            Ok(mut fresh) => {
+                let name = file.name.as_str();
+                fresh.retain(|change| !is_put_of(change, name) && !is_put_of(change, other));
+                Ok(fresh.push(Change::Put(file))?)
+            }
             Err(_) => Err(DeviceFault::Failed),
         }
     }
@@ -55,6 +84,14 @@ impl TurnSaves {
             Some(text) => Ok(Some(text.to_vec(alloc)?)),
             None => Ok(None),
         }
+    }
+}
+
+/// Returns whether a change is that by which the file of this name has a text.
+fn is_put_of(change: &Change, name: &str) -> bool {
+    match change {
+        Change::Put(file) => file.name.as_str() == name,
+        Change::Remove(_) => false,
     }
 }
 
@@ -94,7 +131,11 @@ impl TurnSlots {
     pub(crate) fn write(&self, slot: Slot, text: &[u8]) -> Result<(), DeviceFault> {
         let name = String::from_str(self.alloc, self.name(slot))?;
         let text = text.to_vec(self.alloc)?;
-        self.saves.add(Change::Put(FileText { name, text }))
+        let other = match slot {
+            Slot::Zero => self.one.as_str(),
+            Slot::One => self.zero.as_str(),
+        };
+        self.saves.add_save(other, FileText { name, text })
     }
 
     /// Returns the text of a slot where its file may be older.

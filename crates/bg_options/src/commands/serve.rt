@@ -25,12 +25,16 @@ made durable together, in a SQLite database that is made if it is missing: that 
 many matches take several times as many actions. The folders of the matches follow it. The next
 `serve` or `manage` over DIR finds the database by itself (docs/SERVING.md, \"A database\").
 
+With --store etcd:HOST:PORT,.. several servers, on any machines, serve the same matches over one
+etcd cluster. Any of them may end at any time. DIR is then a copy of what the cluster has
+(docs/SERVING.md, \"Several servers\").
+
 Logs on standard error that it has started, that matches are made, and what fails. Runs until it
 is stopped.
 
-Exit status: 1 if the port is taken, another process serves DIR or has the database, or reading,
-writing or memory failed; 2 if DIR is not a folder, or is the folder of one match, or the database
-has the saves of another folder.";
+Exit status: 1 if the port is taken, another process serves DIR or has the database, the cluster
+can't be asked, or reading, writing or memory failed; 2 if DIR is not a folder, or is the folder of
+one match, or the database or the cluster has the saves of another folder.";
 
 /// The folder to serve, and the port.
 #[derive(Clone, Copy)]
@@ -88,9 +92,9 @@ const ACCESS_LOG: Argument = Argument {
 
 const STORE: Argument = Argument {
     name: "store",
-    kind: Kind::Text("FILE"),
+    kind: Kind::Text("STORE"),
     need: Need::Optional,
-    about: "Make saves durable in this SQLite database: faster with many matches",
+    about: "A SQLite database for saves, or the etcd cluster that servers share: etcd:HOST:PORT,..",
 };
 
 /// The command with its options and help.

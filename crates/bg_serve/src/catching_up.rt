@@ -1,0 +1,108 @@
+//! How a server reads all that a store has: at its start, and where it may have missed changes.
+
+use crate::clusters::Cluster;
+use crate::copies::parts_of;
+use crate::troubles::Trouble;
+use bg_etcd::{File, Page, page_in, page_text};
+
+/// The files of the match at hand, as far as they were read, and what was found of all matches.
+#[derive(Drop)]
+struct Reading {
+    folder: String,
+    files: Vec<File>,
+    /// The matches that were not known as they are.
+    changed: Vec<String>,
+    revision: u64,
+}
+
+impl<'a> Cluster<'a> {
+    /// Returns the files behind one of this name, as they were at a revision; 0 is the newest.
+    pub(crate) fn page(&mut self, behind: &str, revision: u64) -> Result<Page, Trouble> {
+        let alloc = self.rt.alloc();
+        let text = page_text(alloc, behind, revision)?;
+        let (status, body) = self.ask("/v3/kv/range", text.as_str())?;
+        Ok(page_in(alloc, status, &body)?)
+    }
+
+    /// Reads all matches of the store, as they are at one revision, and takes in those that were not
+    /// known as they are. Returns these, and those that are gone. The watch goes on behind it.
+    ///
+    /// # Errors
+    /// Why the store could not be read, or the folder not be written.
+    pub(crate) fn catch_up(&mut self) -> Result<Vec<String>, Trouble> {
+        let alloc = self.rt.alloc();
+        let mut page = self.page("", 0)?;
+        let mut reading = Reading {
+            folder: String::new(alloc),
+            files: Vec::new(alloc),
+            changed: Vec::new(alloc),
+            revision: page.revision,
+        };
+        for _ in 0..u64::MAX {
+            let behind = match page.files.last() {
+                Some(file) => String::from_str(alloc, file.name.as_str())?,
+                None => break,
+            };
+            for file in page.files {
+                self.read_file(&mut reading, file)?;
+            }
+            self.follow_now();
+            if !page.has_more {
+                break;
+            }
+            page = self.page(behind.as_str(), reading.revision)?;
+        }
+        self.end_folder(&mut reading)?;
+        self.end_reading(reading)
+    }
+
+    /// Adds a file to those of its match. Where it is the first of another, the one before is whole.
+    fn read_file(&mut self, reading: &mut Reading, file: File) -> Result<(), Trouble> {
+        let Some((folder, _)) = parts_of(file.name.as_str()) else {
+            return Ok(());
+        };
+        if folder != reading.folder.as_str() {
+            let name = String::from_str(self.rt.alloc(), folder)?;
+            self.end_folder(reading)?;
+            reading.folder = name;
+        }
+        reading.files.push(file)?;
+        Ok(())
+    }
+
+    /// Takes in the match whose files are whole, unless it is known as it is.
+    fn end_folder(&mut self, reading: &mut Reading) -> Result<(), Trouble> {
+        let mut files = Vec::new(self.rt.alloc());
+        files.append(&mut reading.files)?;
+        if files.is_empty() {
+            return Ok(());
+        }
+        let name = reading.folder.as_str();
+        let newest = files.iter().map(|file| file.revision).max().unwrap_or(0);
+        if newest > self.known.of(name) {
+            self.take_in(name, files, reading.revision)?;
+            let name = String::from_str(self.rt.alloc(), name)?;
+            reading.changed.push(name)?;
+        } else {
+            self.known.note(name, reading.revision)?;
+        }
+        Ok(())
+    }
+
+    /// Takes in that matches are gone of which the store has nothing.
+    fn end_reading(&mut self, reading: Reading) -> Result<Vec<String>, Trouble> {
+        let Reading {
+            mut changed,
+            revision,
+            ..
+        } = reading;
+        for name in self.known.older_than(revision)? {
+            self.take_in(name.as_str(), Vec::new(self.rt.alloc()), revision)?;
+            changed.push(name)?;
+        }
+        self.watched = revision;
+        self.watch = None;
+        self.is_stale = false;
+        Ok(changed)
+    }
+}

@@ -1,0 +1,114 @@
+//! The words on stores that several servers share.
+
+use crate::joining::Unjoined;
+use crate::troubles::Trouble;
+use bg_console::{failed, say, wrong};
+use bg_etcd::Fault;
+use bg_processes::Printable;
+use bg_reports::Ending;
+use std::io::ErrorKind;
+
+/// Reports why a server can't share the matches of a store.
+pub(crate) fn not_joined(rt: &HostRuntime, folder: &str, words: &str, why: &Unjoined) -> Ending {
+    let (folder, words) = (Printable(folder), Printable(words));
+    match why {
+        Unjoined::Trouble(trouble) => {
+            let reason = Printable(reason_of(trouble));
+            failed(
+                rt,
+                format_args!("the store {words} can't be used: {reason}"),
+            )
+        }
+        Unjoined::NoMembers => wrong(
+            rt,
+            "--store names no members of a cluster: write etcd:HOST:PORT, and further ones behind commas",
+        ),
+        Unjoined::OwnMatches => wrong(
+            rt,
+            format_args!(
+                "{folder} has matches of its own, and {words} has others: name an empty folder, and copy matches into it by `manage --restore`"
+            ),
+        ),
+        Unjoined::OtherStore => wrong(
+            rt,
+            format_args!("{folder} is a copy of another store than {words}: name an empty folder"),
+        ),
+        Unjoined::Emptied => failed(
+            rt,
+            format_args!(
+                "{words} has nothing more of what {folder} is a copy of: restore it from a snapshot, or remove {folder}/.database to fill it from the folder"
+            ),
+        ),
+    }
+}
+
+/// Returns the words on a trouble.
+fn reason_of(trouble: &Trouble) -> &str {
+    match trouble {
+        Trouble::Folder(_) => "the folder can't be read or written",
+        Trouble::Store(Fault::Away(ErrorKind::WouldBlock)) => "no member answers in time",
+        Trouble::Store(Fault::Away(_)) => "no member can be reached",
+        Trouble::Store(Fault::Refused(_, reason)) => reason.as_str(),
+        Trouble::Store(Fault::Unreadable) => "what answers there is no etcd",
+        Trouble::Store(Fault::Memory) => "out of memory",
+    }
+}
+
+/// Says why a store can't be used.
+pub(crate) fn tell_trouble(rt: &HostRuntime, words: &str, trouble: &Trouble) {
+    let (words, reason) = (Printable(words), Printable(reason_of(trouble)));
+    say(
+        rt,
+        format_args!(
+            "the store {words} can't be used: {reason}; nobody is told anything that it has not"
+        ),
+    );
+}
+
+/// Says that a store can be used again.
+pub(crate) fn tell_well(rt: &HostRuntime, words: &str) {
+    let words = Printable(words);
+    say(
+        rt,
+        format_args!("the store {words} can be used again: the matches go on"),
+    );
+}
+
+/// Says how many matches another server went on with first.
+pub(crate) fn tell_lost(rt: &HostRuntime, count: usize) {
+    if count > 0 {
+        say(
+            rt,
+            format_args!("matches that another server went on with first: {count}"),
+        );
+    }
+}
+
+/// Says that the file of this name comes near the most that a store takes, or is beyond it.
+pub(crate) fn tell_long(rt: &HostRuntime, name: &str, is_refused: bool) {
+    let name = Printable(name);
+    if is_refused {
+        say(
+            rt,
+            format_args!(
+                "{name} has more than the 450000 bytes that the store takes: its match can't go on"
+            ),
+        );
+    } else {
+        say(
+            rt,
+            format_args!("{name} comes near the 450000 bytes that the store takes"),
+        );
+    }
+}
+
+/// Reports that a folder is a copy of what a store has.
+pub(crate) fn is_copy(rt: &HostRuntime, folder: &str, words: &str) -> Ending {
+    let (folder, words) = (Printable(folder), Printable(words));
+    failed(
+        rt,
+        format_args!(
+            "{folder} is a copy of what {words} has: start a server with that --store over it first, or remove {folder}/.database to use it by itself"
+        ),
+    )
+}

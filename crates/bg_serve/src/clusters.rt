@@ -1,0 +1,238 @@
+//! The store of a server that shares its matches with others: an etcd cluster. What all matches
+//! save in a turn is put there, each match by one comparison with the newest that this server knows
+//! of it, and only then is anybody told (docs/SERVING.md, "Several servers").
+
+use crate::copies::Copies;
+use crate::known::Known;
+use crate::members::{Answer, Members};
+use crate::pending::Pending;
+use crate::save_counts::{SaveCounts, micros_since};
+use crate::troubles::Trouble;
+use crate::turn_saves::TurnSaves;
+use crate::watches::Watch;
+use bg_etcd::{Changes, Fault, Taken, removal_text, taken_in, transaction_text};
+use bg_journal::Change;
+use mio::{Events, Poll};
+use std::io;
+use std::rc::Rc;
+use std::time::{Duration, Instant};
+
+/// So many milliseconds are between two tries to put what was saved into the store.
+const BETWEEN_COMMITS: u64 = 100;
+
+/// The store of a server.
+#[derive(Drop)]
+pub(crate) struct Cluster<'a> {
+    pub(crate) rt: &'a HostRuntime,
+    pub(crate) copies: Copies<'a>,
+    pub(crate) members: Members<'a>,
+    pub(crate) saves: Rc<TurnSaves>,
+    counts: Rc<SaveCounts>,
+    pub(crate) known: Known,
+    pending: Pending,
+    /// The matches with which another server went on first.
+    lost: Vec<String>,
+    pub(crate) watch: Option<Watch>,
+    /// Which member is asked for the watch, and up to which revision it has told.
+    pub(crate) watch_at: usize,
+    pub(crate) watched: u64,
+    /// The seconds in which the watch was begun or has told something, in which it was asked
+    /// whether it does, and in which the files have followed.
+    pub(crate) heard: u64,
+    pub(crate) pulsed: u64,
+    followed: u64,
+    /// Whether changes may have been missed.
+    pub(crate) is_stale: bool,
+}
+
+impl<'a> Cluster<'a> {
+    /// Returns the store that these members have, of which nothing is known yet.
+    pub(crate) fn new(
+        copies: Copies<'a>,
+        members: Members<'a>,
+        (saves, counts): (Rc<TurnSaves>, Rc<SaveCounts>),
+    ) -> Cluster<'a> {
+        let rt = copies.rt;
+        Cluster {
+            rt,
+            copies,
+            members,
+            saves,
+            counts,
+            known: Known::nothing(rt.alloc()),
+            pending: Pending::nothing(rt.alloc()),
+            lost: Vec::new(rt.alloc()),
+            watch: None,
+            watch_at: 0,
+            watched: 0,
+            heard: 0,
+            pulsed: 0,
+            followed: 0,
+            is_stale: false,
+        }
+    }
+
+    /// Puts into the store what was saved in the turn. Until this succeeds, nothing may be told that
+    /// rests on it. Returns the matches with which another server went on first: of these nothing
+    /// was put, and the folder has what the store has.
+    ///
+    /// # Errors
+    /// Why it could not be put. Nothing is lost: the next call tries it again.
+    pub(crate) fn commit(&mut self) -> Result<Vec<String>, Trouble> {
+        self.gather()?;
+        if !self.pending.is_empty() {
+            let begun = Instant::now(self.rt).ok();
+            let result = self.put_all();
+            self.counts
+                .note_commit(result.is_ok(), micros_since(self.rt, begun));
+            result?;
+        }
+        let mut lost = Vec::new(self.rt.alloc());
+        lost.append(&mut self.lost)?;
+        Ok(lost)
+    }
+
+    /// Adds changes of a match to what is to be put.
+    pub(crate) fn add(&mut self, changes: Changes) -> Result<(), Trouble> {
+        self.pending.changes.push(changes)?;
+        Ok(())
+    }
+
+    /// Asks a member; the others where it doesn't answer.
+    pub(crate) fn ask(&mut self, path: &str, text: &str) -> Result<Answer, Fault> {
+        self.members.ask(path, text)
+    }
+
+    /// Returns whether the store answers, and no changes may have been missed.
+    pub(crate) fn is_well(&self) -> bool {
+        self.members.is_answering && !self.is_stale
+    }
+
+    /// Sorts by matches what was saved.
+    fn gather(&mut self) -> Result<(), Trouble> {
+        let saves = self.saves.clone()?;
+        let Ok(mut fresh) = saves.fresh.try_borrow_mut() else {
+            return Ok(());
+        };
+        if let Ok(mut behind) = saves.behind.try_borrow_mut() {
+            behind.reserve(fresh.len())?;
+        }
+        for change in fresh.iter() {
+            match change {
+                Change::Put(file) => self.pending.add_file(&self.known, file)?,
+                Change::Remove(folder) => {
+                    self.pending.add_removal(&self.known, folder.as_str())?;
+                    self.known.forget(folder.as_str());
+                }
+            }
+        }
+        fresh.clear();
+        Ok(())
+    }
+
+    /// Puts and removes all that is to be.
+    fn put_all(&mut self) -> Result<(), Trouble> {
+        for _ in 0..u64::MAX {
+            if !self.pending.removals.is_empty() {
+                self.put_removal()?;
+            } else if !self.pending.changes.is_empty() {
+                self.put_some()?;
+            } else {
+                break;
+            }
+        }
+        Ok(())
+    }
+
+    /// Removes a match from the store, whatever others have made of it meanwhile. It is compared
+    /// nevertheless, so that a request which comes late removes no match that was restored.
+    fn put_removal(&mut self) -> Result<(), Trouble> {
+        let alloc = self.rt.alloc();
+        let Some(removal) = self.pending.removals.last() else {
+            return Ok(());
+        };
+        let text = removal_text(alloc, removal.folder.as_str(), removal.known)?;
+        let (status, body) = self.ask("/v3/kv/txn", text.as_str())?;
+        let taken = taken_in(alloc, status, &body)?;
+        if taken.is_taken || taken.files.is_empty() {
+            let _ = self.pending.removals.pop();
+        } else if let Some(removal) = self.pending.removals.last_mut() {
+            removal.known = taken.revision;
+        }
+        Ok(())
+    }
+
+    /// Puts what matches have saved, as many as go into one transaction.
+    fn put_some(&mut self) -> Result<(), Trouble> {
+        let alloc = self.rt.alloc();
+        let count = self.pending.batch();
+        let some = self.pending.changes.get(..count).unwrap_or_default();
+        let text = transaction_text(alloc, some)?;
+        let (status, body) = self.ask("/v3/kv/txn", text.as_str())?;
+        let taken = taken_in(alloc, status, &body)?;
+        if taken.is_taken {
+            return self.note_taken(count, taken.revision);
+        }
+        if count > 1 {
+            self.pending.part(count);
+            return Ok(());
+        }
+        self.note_refused(taken)
+    }
+
+    /// Notes that the first matches were put.
+    fn note_taken(&mut self, count: usize, revision: u64) -> Result<(), Trouble> {
+        for _ in 0..count {
+            let Some(changes) = self.pending.take_first() else {
+                break;
+            };
+            self.known.note(changes.folder.as_str(), revision)?;
+            for file in changes.files {
+                self.place(file)?;
+            }
+        }
+        Ok(())
+    }
+
+    /// Notes that the first match was refused: another server went on with it, unless what it has
+    /// is what was to be put, as where an answer was lost.
+    fn note_refused(&mut self, taken: Taken) -> Result<(), Trouble> {
+        let Some(changes) = self.pending.changes.first() else {
+            return Ok(());
+        };
+        if changes.are_all_in(&taken.files) {
+            return self.note_taken(1, taken.revision);
+        }
+        let name = String::from_str(self.rt.alloc(), changes.folder.as_str())?;
+        self.take_in(name.as_str(), taken.files, taken.revision)?;
+        self.lost.push(name)?;
+        let _ = self.pending.take_first();
+        Ok(())
+    }
+
+    /// Writes the files that are older than the store, once a second.
+    pub(crate) fn follow(&mut self, now: u64) {
+        if now != self.followed {
+            self.followed = now;
+            self.follow_now();
+        }
+    }
+
+    /// Writes the files that are older than the store. What can't be written is tried again later.
+    pub(crate) fn follow_now(&self) {
+        if let Ok(mut behind) = self.saves.behind.try_borrow_mut() {
+            let copies = self.copies;
+            behind.files.retain(|file| copies.write_named(file.name.as_str(), &file.text).is_err());
+        }
+    }
+
+    /// Waits a while, where the store could not be asked.
+    ///
+    /// # Errors
+    /// Why nothing can be waited for.
+    pub(crate) fn pause(&self) -> io::Result<()> {
+        let mut poll = Poll::new(self.rt)?;
+        let mut events = Events::with_capacity(self.rt.alloc(), 1)?;
+        poll.poll(&mut events, Some(Duration::from_millis(BETWEEN_COMMITS)))
+    }
+}

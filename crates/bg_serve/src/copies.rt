@@ -1,0 +1,185 @@
+//! The folder of a server that shares its matches: a copy of what the store has.
+
+use crate::marks::{hide, is_hidden, show};
+use bg_console::path_in;
+use bg_etcd::File;
+use bg_requests::is_name;
+use std::fs::{DirBuilder, OpenOptions};
+use std::io::{ErrorKind, Write};
+use std::os::unix::fs::{DirBuilderExt, OpenOptionsExt};
+use std::{fs, io};
+
+/// A folder, and a file, for their owner alone.
+const FOLDER: u32 = 0o700;
+
+const FILE: u32 = 0o600;
+
+/// The file without which a folder is no match.
+pub(crate) const MATCH: &str = "match";
+
+/// The file that says who may play.
+const SEATS: &str = "seats";
+
+/// The file that says whether lists leave a match out. In the store it has a text; a folder has it,
+/// without a text, or has it not.
+const HIDDEN: &str = "hidden";
+
+const YES: &str = "yes";
+
+const NO: &str = "no";
+
+/// The files of a match that its parties don't write.
+pub(crate) const BESIDE_SLOTS: [&str; 5] = [MATCH, "secret", "dice", SEATS, HIDDEN];
+
+/// The files that its parties write.
+pub(crate) const SLOTS: [&str; 6] = [
+    "party-0.0",
+    "party-0.1",
+    "party-1.0",
+    "party-1.1",
+    "party-2.0",
+    "party-2.1",
+];
+
+/// Returns the name of the match and that of the file, where a name in the store is that of a file
+/// of a match.
+pub(crate) fn parts_of(name: &str) -> Option<(&str, &str)> {
+    let (folder, file) = name.split_once('/')?;
+    if is_name(folder) && (is_slot(file) || BESIDE_SLOTS.iter().any(|other| *other == file)) {
+        Some((folder, file))
+    } else {
+        None
+    }
+}
+
+/// Returns whether a file is one that a party writes.
+pub(crate) fn is_slot(file: &str) -> bool {
+    SLOTS.iter().any(|slot| *slot == file)
+}
+
+/// The folder of all matches, where it is a copy.
+#[derive(Clone, Copy)]
+pub(crate) struct Copies<'a> {
+    pub(crate) rt: &'a HostRuntime,
+    pub(crate) folder: &'a str,
+}
+
+impl<'a> Copies<'a> {
+    /// Writes a file of a match, unless it has this text.
+    ///
+    /// # Errors
+    /// Why it could not be written.
+    pub(crate) fn write(&self, folder: &str, file: &str, text: &[u8]) -> io::Result<()> {
+        let alloc = self.rt.alloc();
+        let above = path_in(alloc, self.folder, folder)?;
+        DirBuilder::new()
+            .recursive(true)
+            .mode(FOLDER)
+            .create(self.rt, above.as_str())?;
+        if file == HIDDEN {
+            return if text == YES.as_bytes() {
+                hide(self.rt, above.as_str())
+            } else {
+                show(self.rt, above.as_str())
+            };
+        }
+        let path = path_in(alloc, above.as_str(), file)?;
+        if fs::read(self.rt, path.as_str()).is_ok_and(|old| old.as_slice() == text) {
+            return Ok(());
+        }
+        let mut out = OpenOptions::new()
+            .write(true)
+            .create(true)
+            .truncate(true)
+            .mode(FILE)
+            .open(self.rt, path.as_str())?;
+        out.write_all(text)
+    }
+
+    /// Writes a file by its name in the store. What is no file of a match is passed over.
+    ///
+    /// # Errors
+    /// Why it could not be written.
+    pub(crate) fn write_named(&self, name: &str, text: &[u8]) -> io::Result<()> {
+        match parts_of(name) {
+            Some((folder, file)) => self.write(folder, file, text),
+            None => Ok(()),
+        }
+    }
+
+    /// Removes the folder of a match, if it is there. First it is given a name that no match has, so
+    /// that nothing is left of it where a kill comes.
+    ///
+    /// # Errors
+    /// Why it could not be removed.
+    pub(crate) fn remove(&self, folder: &str) -> io::Result<()> {
+        let path = path_in(self.rt.alloc(), self.folder, folder)?;
+        let gone = format!(in self.rt.alloc(); "{}.deleted", path.as_str())?;
+        // What a kill has left of an earlier one is removed first.
+        let _ = fs::remove_dir_all(self.rt, gone.as_str());
+        match fs::rename(self.rt, path.as_str(), gone.as_str()) {
+            Err(error) if error.kind() == ErrorKind::NotFound => return Ok(()),
+            renamed => renamed?,
+        }
+        fs::remove_dir_all(self.rt, gone.as_str())
+    }
+
+    /// Returns the names of the matches that are played here: those that have seats.
+    ///
+    /// # Errors
+    /// Why the folder could not be read.
+    pub(crate) fn names(&self) -> io::Result<Vec<String>> {
+        let alloc = self.rt.alloc();
+        let mut names = Vec::new(alloc);
+        for entry in fs::read_dir(self.rt, self.folder)? {
+            let name = String::from_str(alloc, entry?.file_name())?;
+            if is_name(name.as_str()) && self.has_seats(name.as_str())? {
+                names.push(name)?;
+            }
+        }
+        Ok(names)
+    }
+
+    /// Returns whether a match has seats here.
+    pub(crate) fn has_seats(&self, folder: &str) -> io::Result<bool> {
+        let above = path_in(self.rt.alloc(), self.folder, folder)?;
+        let seats = path_in(self.rt.alloc(), above.as_str(), SEATS)?;
+        Ok(fs::metadata(self.rt, seats.as_str()).is_ok())
+    }
+
+    /// Returns those of these files that a match has, as the store is to have them.
+    ///
+    /// # Errors
+    /// Why they could not be read.
+    pub(crate) fn files(&self, folder: &str, names: &[&str]) -> io::Result<Vec<File>> {
+        let mut files = Vec::new(self.rt.alloc());
+        for file in names.iter() {
+            if let Some(text) = self.text_of(folder, file)? {
+                let name = path_in(self.rt.alloc(), folder, file)?;
+                let revision = 0;
+                files.push(File {
+                    name,
+                    text,
+                    revision,
+                })?;
+            }
+        }
+        Ok(files)
+    }
+
+    /// Returns the text of a file, as the store is to have it.
+    fn text_of(&self, folder: &str, file: &str) -> io::Result<Option<Vec<u8>>> {
+        let alloc = self.rt.alloc();
+        let above = path_in(alloc, self.folder, folder)?;
+        if file == HIDDEN {
+            let is_hidden = is_hidden(self.rt, above.as_str())?;
+            let text = if is_hidden { YES } else { NO };
+            return Ok(Some(text.as_bytes().to_vec(alloc)?));
+        }
+        let path = path_in(alloc, above.as_str(), file)?;
+        match fs::read(self.rt, path.as_str()) {
+            Err(error) if error.kind() == ErrorKind::NotFound => Ok(None),
+            read => Ok(Some(read?)),
+        }
+    }
+}

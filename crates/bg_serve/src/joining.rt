@@ -1,0 +1,160 @@
+//! How a server joins those that share the matches of a store. The mark in its folder says of which
+//! store it is a copy; the store has the same digits.
+
+use crate::clusters::Cluster;
+use crate::copies::{BESIDE_SLOTS, Copies, SLOTS};
+use crate::folders::FolderStore;
+use crate::members::{Members, hosts_in};
+use crate::seat_files::random_digits;
+use crate::settling::{CLUSTER, read_mark, write_mark};
+use crate::troubles::Trouble;
+use crate::turn_saves::TurnSaves;
+use bg_etcd::{Changes, File, taken_in, transaction_text};
+use std::alloc::AllocError;
+use std::io;
+
+/// The folder and the file of a store that say which one it is. No match has a name with a dot.
+const OWNER: &str = ".owner";
+
+const OWNER_FILE: &str = ".owner/id";
+
+/// What a mark says as long as a store is being filled from the folder.
+const FILLING: &str = "filling";
+
+/// Why a server can't share the matches of a store.
+#[derive(Drop)]
+pub(crate) enum Unjoined {
+    Trouble(Trouble),
+    /// The option names no members.
+    NoMembers,
+    /// The folder has matches of its own, and the store has others.
+    OwnMatches,
+    /// The folder is a copy of another store.
+    OtherStore,
+    /// The folder is a copy of what the store has no more.
+    Emptied,
+}
+
+impl From<Trouble> for Unjoined {
+    fn from(trouble: Trouble) -> Unjoined {
+        Unjoined::Trouble(trouble)
+    }
+}
+
+impl From<io::Error> for Unjoined {
+    fn from(error: io::Error) -> Unjoined {
+        Unjoined::Trouble(Trouble::from(error))
+    }
+}
+
+impl From<AllocError> for Unjoined {
+    fn from(error: AllocError) -> Unjoined {
+        Unjoined::Trouble(Trouble::from(error))
+    }
+}
+
+/// Joins the servers that share the matches of the store that an option names. The first one fills
+/// the store with the matches of its folder; the folder of any other is a copy from then on.
+///
+/// # Errors
+/// Why that can't be done.
+pub(crate) fn join<'a>(
+    rt: &'a HostRuntime,
+    folder: &'a str,
+    words: &str,
+    store: &mut FolderStore<'a>,
+) -> Result<Cluster<'a>, Unjoined> {
+    let alloc = rt.alloc();
+    let Some(hosts) = hosts_in(alloc, words.strip_prefix(CLUSTER).unwrap_or(""))? else {
+        return Err(Unjoined::NoMembers);
+    };
+    let gathered = store.gather(TurnSaves::shared(alloc))?;
+    let copies = Copies { rt, folder };
+    let mut cluster = Cluster::new(copies, Members::new(rt, hosts), gathered);
+    cluster.check_owner(words)?;
+    let _ = cluster.catch_up()?;
+    cluster.remove_others()?;
+    Ok(cluster)
+}
+
+impl<'a> Cluster<'a> {
+    /// Checks that the folder is a copy of the store, or makes it one.
+    fn check_owner(&mut self, words: &str) -> Result<(), Unjoined> {
+        let Copies { rt, folder } = self.copies;
+        let owner = owner_in(self.page("", 0)?.files);
+        let Some(mark) = read_mark(rt, folder)? else {
+            return match owner {
+                None => self.fill(words),
+                Some(owner) if self.copies.names()?.is_empty() => {
+                    Ok(write_mark(rt, folder, words, owner.as_str())?)
+                }
+                Some(_) => Err(Unjoined::OwnMatches),
+            };
+        };
+        match owner {
+            _ if mark.owner.as_str() == FILLING => self.fill(words),
+            Some(owner) if owner.as_str() == mark.owner.as_str() => Ok(()),
+            Some(_) => Err(Unjoined::OtherStore),
+            None => Err(Unjoined::Emptied),
+        }
+    }
+
+    /// Fills the store with the matches of the folder. A kill in the midst loses nothing: the next
+    /// start does it again.
+    fn fill(&mut self, words: &str) -> Result<(), Unjoined> {
+        let Copies { rt, folder } = self.copies;
+        write_mark(rt, folder, words, FILLING)?;
+        for name in self.copies.names()? {
+            self.add_all(name.as_str())?;
+        }
+        let _ = self.commit()?;
+        let owner = self.put_owner(random_digits(rt, 16)?)?;
+        Ok(write_mark(rt, folder, words, owner.as_str())?)
+    }
+
+    /// Adds all files of a match to what is to be put.
+    fn add_all(&mut self, name: &str) -> Result<(), Trouble> {
+        let mut changes = Changes::new(self.rt.alloc(), name, 0)?;
+        for files in [BESIDE_SLOTS.as_slice(), SLOTS.as_slice()] {
+            for file in self.copies.files(name, files)? {
+                changes.put(file)?;
+            }
+        }
+        self.add(changes)
+    }
+
+    /// Puts into the store which one it is, unless another server has; returns what it has then.
+    fn put_owner(&mut self, owner: String) -> Result<String, Trouble> {
+        let alloc = self.rt.alloc();
+        let mut changes = Changes::new(alloc, OWNER, 0)?;
+        changes.put(File {
+            name: String::from_str(alloc, OWNER_FILE)?,
+            text: owner.as_bytes().to_vec(alloc)?,
+            revision: 0,
+        })?;
+        let text = transaction_text(alloc, &[changes])?;
+        let (status, body) = self.ask("/v3/kv/txn", text.as_str())?;
+        let taken = taken_in(alloc, status, &body)?;
+        Ok(owner_in(taken.files).unwrap_or(owner))
+    }
+
+    /// Removes the matches of the folder of which the store has nothing: they were deleted.
+    fn remove_others(&mut self) -> Result<(), Trouble> {
+        for name in self.copies.names()? {
+            if self.known.of(name.as_str()) == 0 {
+                self.copies.remove(name.as_str())?;
+            }
+        }
+        Ok(())
+    }
+}
+
+/// Returns which store it is that has these files first.
+fn owner_in(files: Vec<File>) -> Option<String> {
+    for file in files {
+        if file.name.as_str() == OWNER_FILE {
+            return String::from_utf8(file.text).ok();
+        }
+    }
+    None
+}

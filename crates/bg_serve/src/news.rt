@@ -1,0 +1,222 @@
+//! What other servers have made of the matches: a watch of the store tells it.
+
+use crate::clusters::Cluster;
+use crate::copies::{MATCH, is_slot, parts_of};
+use crate::troubles::Trouble;
+use crate::watches::{Told, Watch};
+use bg_etcd::{Event, File, put_text, revision_in};
+use bg_journal::{Change, FileText};
+use mio::Registry;
+
+/// A watch that was silent for so many seconds is asked whether it still tells, and one that was so
+/// for as many more is given up.
+const MOST_SILENT: u64 = 2;
+
+/// The file that is written to see whether a watch tells of it.
+const PULSE: &str = ".pulse";
+
+/// What was seen of a match.
+#[derive(Drop)]
+struct Seen {
+    name: String,
+    revision: u64,
+    is_gone: bool,
+}
+
+impl<'a> Cluster<'a> {
+    /// Returns the matches that other servers have changed, made or removed. The folder, and what
+    /// it is behind, have what the store has of these.
+    ///
+    /// # Errors
+    /// Why the store could not be asked, or the folder not be written.
+    pub(crate) fn news(&mut self, registry: &Registry, now: u64) -> Result<Vec<String>, Trouble> {
+        if self.is_stale {
+            return self.catch_up_once(now);
+        }
+        let Some(watch) = &mut self.watch else {
+            if now != self.heard {
+                self.begin_watch(registry, now);
+            }
+            return Ok(Vec::new(self.rt.alloc()));
+        };
+        match watch.told() {
+            Ok(Told::Events(Some(events))) => {
+                self.heard = now;
+                self.members.is_answering = true;
+                self.take_events(events)
+            }
+            Ok(Told::Events(None)) => self.wait_for_watch(now),
+            Ok(Told::Ended) => {
+                self.end_watch();
+                self.is_stale = true;
+                Ok(Vec::new(self.rt.alloc()))
+            }
+            Err(_) => {
+                self.end_watch();
+                Ok(Vec::new(self.rt.alloc()))
+            }
+        }
+    }
+
+    /// Reads all that the store has, once a second.
+    fn catch_up_once(&mut self, now: u64) -> Result<Vec<String>, Trouble> {
+        if now == self.heard {
+            return Ok(Vec::new(self.rt.alloc()));
+        }
+        self.heard = now;
+        self.catch_up()
+    }
+
+    /// Begins a watch of what changes from now on. Where that fails, the next second tries another
+    /// member.
+    fn begin_watch(&mut self, registry: &Registry, now: u64) {
+        self.heard = now;
+        self.pulsed = now;
+        let next = self.watched.saturating_add(1);
+        match Watch::begin(self.rt, registry, self.members.host_at(self.watch_at), next) {
+            Ok(watch) => self.watch = Some(watch),
+            Err(_) => self.end_watch(),
+        }
+    }
+
+    /// Gives a watch up. The next one is another member's.
+    fn end_watch(&mut self) {
+        self.watch = None;
+        self.watch_at = self.watch_at.wrapping_add(1);
+    }
+
+    /// Has something written that a silent watch has to tell of, and gives up one that has not.
+    fn wait_for_watch(&mut self, now: u64) -> Result<Vec<String>, Trouble> {
+        let none = Vec::new(self.rt.alloc());
+        if now.saturating_sub(self.heard) <= MOST_SILENT {
+            return Ok(none);
+        }
+        if self.pulsed <= self.heard {
+            self.pulsed = now;
+            let text = put_text(self.rt.alloc(), PULSE, b"")?;
+            let (status, body) = self.ask("/v3/kv/put", text.as_str())?;
+            revision_in(self.rt.alloc(), status, &body)?;
+        } else if now.saturating_sub(self.pulsed) > MOST_SILENT {
+            self.end_watch();
+        }
+        Ok(none)
+    }
+
+    /// Takes in changes that a watch has told; returns the matches that they are about.
+    fn take_events(&mut self, events: Vec<Event>) -> Result<Vec<String>, Trouble> {
+        // Where something fails in the midst, all is read anew.
+        self.is_stale = true;
+        let mut all: Vec<Seen> = Vec::new(self.rt.alloc());
+        for event in events {
+            self.watched = self.watched.max(event.revision);
+            self.take_event(event, &mut all)?;
+        }
+        let mut names = Vec::new(self.rt.alloc());
+        for seen in all {
+            if seen.is_gone {
+                self.known.forget(seen.name.as_str());
+            } else {
+                self.known.note(seen.name.as_str(), seen.revision)?;
+            }
+            names.push(seen.name)?;
+        }
+        self.is_stale = false;
+        Ok(names)
+    }
+
+    /// Takes in a change, unless it is known: it may be this server's own.
+    fn take_event(&mut self, event: Event, all: &mut Vec<Seen>) -> Result<(), Trouble> {
+        let Event {
+            name,
+            text,
+            revision,
+        } = event;
+        let Some((folder, file)) = parts_of(name.as_str()) else {
+            return Ok(());
+        };
+        if revision <= self.known.of(folder) {
+            return Ok(());
+        }
+        let is_heart = file == MATCH;
+        let is_gone = is_heart && text.is_none();
+        self.note_seen(folder, revision, is_heart, is_gone, all)?;
+        match text {
+            Some(text) => self.place(File {
+                name,
+                text,
+                revision,
+            }),
+            None if is_gone => self.remove(folder),
+            None => Ok(()),
+        }
+    }
+
+    /// Notes what was seen of a match.
+    fn note_seen(
+        &self,
+        folder: &str,
+        revision: u64,
+        is_heart: bool,
+        is_gone: bool,
+        all: &mut Vec<Seen>,
+    ) -> Result<(), Trouble> {
+        for seen in all.iter_mut() {
+            if seen.name.as_str() == folder {
+                seen.revision = revision;
+                if is_heart {
+                    seen.is_gone = is_gone;
+                }
+                return Ok(());
+            }
+        }
+        all.push(Seen {
+            name: String::from_str(self.rt.alloc(), folder)?,
+            revision,
+            is_gone,
+        })?;
+        Ok(())
+    }
+
+    /// Takes in a match as the store has it at a revision: its files, or that it has none.
+    pub(crate) fn take_in(
+        &mut self,
+        folder: &str,
+        files: Vec<File>,
+        revision: u64,
+    ) -> Result<(), Trouble> {
+        if files.is_empty() {
+            self.known.forget(folder);
+            return self.remove(folder);
+        }
+        for file in files {
+            self.place(file)?;
+        }
+        self.known.note(folder, revision)?;
+        Ok(())
+    }
+
+    /// Places a file of the store in the folder: one that a party writes follows later.
+    pub(crate) fn place(&self, file: File) -> Result<(), Trouble> {
+        let Some((folder, name)) = parts_of(file.name.as_str()) else {
+            return Ok(());
+        };
+        if !is_slot(name) {
+            return Ok(self.copies.write(folder, name, &file.text)?);
+        }
+        let File { name, text, .. } = file;
+        if let Ok(mut behind) = self.saves.behind.try_borrow_mut() {
+            behind.reserve(1)?;
+            behind.note(Change::Put(FileText { name, text }));
+        }
+        Ok(())
+    }
+
+    /// Removes the folder of a match.
+    fn remove(&self, folder: &str) -> Result<(), Trouble> {
+        let name = String::from_str(self.rt.alloc(), folder)?;
+        if let Ok(mut behind) = self.saves.behind.try_borrow_mut() {
+            behind.note(Change::Remove(name));
+        }
+        Ok(self.copies.remove(folder)?)
+    }
+}

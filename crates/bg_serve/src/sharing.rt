@@ -1,0 +1,176 @@
+//! The turns of a server that shares its matches with others.
+
+use crate::cluster_words::{not_joined, tell_long, tell_lost, tell_trouble, tell_well};
+use crate::clusters::Cluster;
+use crate::folders::FolderStore;
+use crate::joining::{Unjoined, join};
+use crate::serve::{not_begun, tell_begin, tell_turn, waited};
+use crate::servers::Server;
+use crate::settling::Unusable;
+use crate::sockets::Sockets;
+use crate::troubles::Trouble;
+use bg_options::ServeOptions;
+use bg_processes::Failures;
+use bg_reports::Ending;
+
+/// A store, and what was said of it.
+#[derive(Drop)]
+struct Shared<'a> {
+    rt: &'a HostRuntime,
+    cluster: Cluster<'a>,
+    /// The option that names it.
+    words: &'a str,
+    is_away: bool,
+}
+
+/// Serves the matches of a store, of which the folder is a copy, until the process is ended.
+pub(crate) fn run_shared<'a>(
+    rt: &'a HostRuntime,
+    options: &ServeOptions<'a>,
+    words: &'a str,
+    failures: &'a Failures,
+) -> Result<Ending, Ending> {
+    let sockets = match Sockets::bind(rt, options.port) {
+        Ok(sockets) => sockets,
+        Err(error) => {
+            return Err(not_begun(rt, options.port, words, Unusable::File(error)));
+        }
+    };
+    let (cluster, store) = match joined(rt, options.folder, words, failures) {
+        Ok(joined) => joined,
+        Err(why) => return Err(not_joined(rt, options.folder, words, &why)),
+    };
+    let mut server = match Server::begin_over(rt, sockets, store) {
+        Ok(server) => server,
+        Err(error) => return Err(not_joined(rt, options.folder, words, &Unjoined::from(error))),
+    };
+    server.site.set_idle(u64::from(options.idle_hours) * 60);
+    if options.tells_requests {
+        server.site.keep_log();
+    }
+    let mut shared = Shared {
+        rt,
+        cluster,
+        words,
+        is_away: false,
+    };
+    shared.commit(&mut server)?;
+    tell_begin(rt, &server);
+    go_on(&mut shared, &mut server, options.folder, failures)
+}
+
+/// Joins the servers that share the matches of a store.
+fn joined<'a>(
+    rt: &'a HostRuntime,
+    folder: &'a str,
+    words: &str,
+    failures: &'a Failures,
+) -> Result<(Cluster<'a>, FolderStore<'a>), Unjoined> {
+    let mut store = FolderStore::new(rt, folder, failures)?;
+    let cluster = join(rt, folder, words, &mut store)?;
+    Ok((cluster, store))
+}
+
+/// Lets a server take its turns. What was saved in one is in the store before anybody is told of
+/// it, and so is what was changed while they were told.
+fn go_on(
+    shared: &mut Shared<'_>,
+    server: &mut Server<'_>,
+    folder: &str,
+    failures: &Failures,
+) -> Result<Ending, Ending> {
+    let rt = shared.rt;
+    for _ in 0..u64::MAX {
+        let now = waited(rt, server.hear())?;
+        shared.commit(server)?;
+        shared.take_news(server, now)?;
+        let made = waited(rt, server.tell(now))?;
+        shared.commit(server)?;
+        shared.cluster.follow(now);
+        tell_turn(rt, server, made, folder, failures);
+        shared.tell_long();
+    }
+    Ok(Ending::Served)
+}
+
+impl<'a> Shared<'a> {
+    /// Puts into the store what was saved, as long as there is anything. A match with which another
+    /// server went on first goes on from what that has saved, and the clients who have an answer
+    /// that may rest on anything else are let go of: they come again, and send again.
+    fn commit(&mut self, server: &mut Server<'_>) -> Result<(), Ending> {
+        for _ in 0..u64::MAX {
+            let lost = self.committed()?;
+            if lost.is_empty() {
+                break;
+            }
+            server.drop_answers(&lost);
+            for name in lost.iter() {
+                server.renew(name.as_str());
+            }
+            tell_lost(self.rt, lost.len());
+        }
+        Ok(())
+    }
+
+    /// Puts into the store what was saved, and tries it again as long as that fails. Returns the
+    /// matches with which another server went on first.
+    fn committed(&mut self) -> Result<Vec<String>, Ending> {
+        for _ in 0..u64::MAX {
+            match self.cluster.commit() {
+                Ok(lost) => {
+                    self.tell_well();
+                    return Ok(lost);
+                }
+                Err(trouble) => self.tell_trouble(&trouble),
+            }
+            waited(self.rt, self.cluster.pause())?;
+        }
+        Ok(Vec::new(self.rt.alloc()))
+    }
+
+    /// Takes in what other servers have made of the matches.
+    fn take_news(&mut self, server: &mut Server<'_>, now: u64) -> Result<(), Ending> {
+        match self.cluster.news(server.poll.registry(), now) {
+            Ok(names) if names.is_empty() => Ok(()),
+            Ok(names) => {
+                for name in names.iter() {
+                    server.renew(name.as_str());
+                }
+                self.commit(server)
+            }
+            Err(trouble) => {
+                self.tell_trouble(&trouble);
+                Ok(())
+            }
+        }
+    }
+
+    /// Says why the store can't be used, unless that was said already.
+    fn tell_trouble(&mut self, trouble: &Trouble) {
+        if !self.is_away {
+            self.is_away = true;
+            tell_trouble(self.rt, self.words, trouble);
+        }
+    }
+
+    /// Says that the store can be used again, where it could not.
+    fn tell_well(&mut self) {
+        if self.is_away && self.cluster.is_well() {
+            self.is_away = false;
+            tell_well(self.rt, self.words);
+        }
+    }
+
+    /// Says which matches come near the most that the store takes.
+    fn tell_long(&self) {
+        let Some(long) = &self.cluster.saves.long else {
+            return;
+        };
+        for _ in 0..u64::MAX {
+            let Some((name, is_refused)) = long.next_untold() else {
+                return;
+            };
+            tell_long(self.rt, name.as_str(), is_refused);
+        }
+    }
+}

@@ -1,0 +1,38 @@
+//! Why a server could not share what it has with others.
+
+use bg_etcd::Fault;
+use std::alloc::{AllocError, AllocFailed};
+use std::io;
+
+/// Why a server could not share what it has with others.
+#[derive(Drop)]
+pub(crate) enum Trouble {
+    /// The store could not be asked, or has refused.
+    Store(Fault),
+    /// The folder could not be read or written.
+    Folder(io::Error),
+}
+
+impl From<Fault> for Trouble {
+    fn from(fault: Fault) -> Trouble {
+        Trouble::Store(fault)
+    }
+}
+
+impl From<io::Error> for Trouble {
+    fn from(error: io::Error) -> Trouble {
+        Trouble::Folder(error)
+    }
+}
+
+impl From<AllocError> for Trouble {
+    fn from(_error: AllocError) -> Trouble {
+        Trouble::Store(Fault::Memory)
+    }
+}
+
+impl<T: Drop> From<AllocFailed<T>> for Trouble {
+    fn from(_error: AllocFailed<T>) -> Trouble {
+        Trouble::Store(Fault::Memory)
+    }
+}

@@ -1,0 +1,110 @@
+//! The watch of a store: a connection by which a member tells what changes.
+
+use bg_etcd::{Event, Exchange, Fault, News, news_in, watch_text};
+use mio::net::TcpStream;
+use mio::{Interest, Registry, Token};
+use std::alloc::Global;
+use std::io::ErrorKind;
+use std::net::ToSocketAddrs;
+
+/// The token of the watch, which no client has.
+pub(crate) const WATCH: Token = Token(usize::MAX);
+
+/// The most reads in one turn.
+const MOST_READS: u32 = 4096;
+
+/// A watch.
+#[derive(Drop)]
+pub(crate) struct Watch {
+    alloc: Global,
+    stream: TcpStream,
+    exchange: Exchange,
+}
+
+/// What a watch has told.
+#[derive(Drop)]
+pub(crate) enum Told {
+    /// Changes, in their order; None where nothing has come, not even that the watch has begun.
+    Events(Option<Vec<Event>>),
+    /// It can't go on from where it was.
+    Ended,
+}
+
+impl Watch {
+    /// Asks a member to tell what changes from a revision on, and has the server woken then.
+    ///
+    /// # Errors
+    /// Why it can't be asked.
+    pub(crate) fn begin(
+        rt: &HostRuntime,
+        registry: &Registry,
+        host: &str,
+        revision: u64,
+    ) -> Result<Watch, Fault> {
+        let Some(address) = host.to_socket_addrs(rt)?.next() else {
+            return Err(Fault::Away(ErrorKind::NotFound));
+        };
+        let mut stream = TcpStream::connect(rt, address)?;
+        registry.register(&mut stream, WATCH, Interest::READABLE | Interest::WRITABLE)?;
+        let mut exchange = Exchange::new(rt.alloc());
+        let text = watch_text(rt.alloc(), revision)?;
+        exchange.ask(host, "/v3/watch", text.as_str())?;
+        Ok(Watch {
+            alloc: rt.alloc(),
+            stream,
+            exchange,
+        })
+    }
+
+    /// Returns what has come.
+    ///
+    /// # Errors
+    /// Why nothing will come any more.
+    pub(crate) fn told(&mut self) -> Result<Told, Fault> {
+        if !self.send()? {
+            return Ok(Told::Events(None));
+        }
+        let has_come = self.read()?;
+        let mut all = Vec::new(self.alloc);
+        for _ in 0..u64::MAX {
+            let Some(line) = self.exchange.take_line()? else {
+                break;
+            };
+            match news_in(self.alloc, &line)? {
+                News::Events(mut events) => all.append(&mut events)?,
+                News::Ended => return Ok(Told::Ended),
+            }
+        }
+        self.exchange.check_goes_on()?;
+        Ok(Told::Events(has_come.then_some(all)))
+    }
+
+    /// Sends what is left of the request; returns whether all of it went.
+    fn send(&mut self) -> Result<bool, Fault> {
+        for _ in 0..u64::MAX {
+            if !self.exchange.wants_write() {
+                return Ok(true);
+            }
+            match self.exchange.write_to(&mut self.stream) {
+                Ok(0) => return Err(Fault::Away(ErrorKind::WriteZero)),
+                Ok(_) => {}
+                Err(error) if error.kind() == ErrorKind::WouldBlock => return Ok(false),
+                Err(error) => return Err(Fault::Away(error.kind())),
+            }
+        }
+        Ok(true)
+    }
+
+    /// Reads until nothing more is there; returns whether anything was.
+    fn read(&mut self) -> Result<bool, Fault> {
+        for count in 0..MOST_READS {
+            match self.exchange.read_from(&mut self.stream) {
+                Ok(0) => return Err(Fault::Away(ErrorKind::UnexpectedEof)),
+                Ok(_) => {}
+                Err(Fault::Away(ErrorKind::WouldBlock)) => return Ok(count > 0),
+                Err(fault) => return Err(fault),
+            }
+        }
+        Ok(true)
+    }
+}
