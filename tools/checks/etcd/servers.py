@@ -1,0 +1,81 @@
+"""Servers that share the matches of one cluster, each with a folder and a port of its own."""
+import os
+import signal
+
+from counting import right
+from parties import comes
+from program import PROGRAM
+from served import Served
+from serving.asking import lines_of, state_of
+
+
+class Sharing(Served):
+    """A server of the fleet. What it says is kept in a file, as nobody reads it meanwhile."""
+
+    def __init__(self, folder, port, words):
+        command = [PROGRAM, "serve", "--dir", folder, "--port", str(port), "--store", words]
+        super().__init__(folder, port, command)
+
+    def stop(self):
+        self.process.send_signal(signal.SIGSTOP)
+
+    def go_on(self):
+        self.process.send_signal(signal.SIGCONT)
+
+    def end(self):
+        """Ends it, and gives what it has said."""
+        self.go_on()
+        self.kill()
+        return self.process.stderr.read().decode()
+
+
+class Fleet:
+    """Servers over one cluster."""
+
+    def __init__(self, room, port, count, cluster):
+        self.servers, self.said = [], []
+        for at in range(count):
+            folder = os.path.join(room, f"tables{at}")
+            os.mkdir(folder, 0o700)
+            self.servers.append(Sharing(folder, port + at, cluster.words))
+
+    def __getitem__(self, at):
+        return self.servers[at]
+
+    def __len__(self):
+        return len(self.servers)
+
+    def begin(self):
+        for server in self.servers:
+            self.begin_one(server)
+
+    def begin_one(self, server):
+        """Begins a server, and waits until it answers: its port takes connections before it has read the store."""
+        server.begin()
+        right(server.ask("/health")[0] == 200, "a server does not answer")
+
+    def begin_again(self, server):
+        self.said.append(server.end())
+        self.begin_one(server)
+
+    def end(self):
+        for server in self.servers:
+            if server.process and server.process.poll() is None:
+                self.said.append(server.end())
+
+    def all_have(self, name, number):
+        """Whether all servers come to tell this entry of a match."""
+        return comes(lambda: all(has(server, name, number) for server in self.servers))
+
+
+def has(server, name, number):
+    status, _, _ = server.ask(f"/matches/{name}/state")
+    return status == 200 and state_of(server, name)["number"] >= number
+
+
+def same_lines(fleet, name):
+    """The transcript of a match, which all servers come to tell alike."""
+    def told():
+        return [lines_of(server, name) for server in fleet.servers]
+    right(comes(lambda: len({tuple(lines) for lines in told()}) == 1), f"servers tell {name} in different ways: {told()}")
+    return told()[0]
