@@ -68,7 +68,7 @@ pub(crate) fn lasting_shelf<'a>(rt: &(impl AllocGlobal + Abort)) -> &'a Shelf {
 }
 
 impl Shelf {
-    fn new(alloc: Global) -> Shelf {
+    pub(crate) fn new(alloc: Global) -> Shelf {
         Shelf {
             referee: Slots::new(alloc),
             x: Slots::new(alloc),

@@ -1,0 +1,92 @@
+//! Want of memory: no run of the tests refuses a growth, but `tools/checks/refuse_growths` refuses
+//! each in turn.
+use crate::keepers::{Shelf, ShelfKeeper};
+use bg_auto::auto_action;
+use bg_hosted::HostedMatch;
+use bg_match::{Actor, Rules, Terms};
+use std::alloc::Global;
+use std::process::Abort;
+
+/// What lacked memory is done once more, and then succeeds; what was told stays told.
+#[test]
+fn refused_growths_of_a_hosted_match(rt: HostRuntime) {
+    check_growths(&rt);
+}
+
+fn check_growths(rt: &(impl Abort + AllocGlobal)) {
+    let shelf = Shelf::new(rt.alloc());
+    let mut hosted = begun_at_last(rt, &shelf);
+    play(rt, &mut hosted, 1);
+    let mut again = begun_at_last(rt, &shelf);
+    play(rt, &mut again, 4);
+    check_no_growth_is_left(rt);
+}
+
+/// The match that goes on from what a shelf has, by a second try where the first lacked memory.
+fn begun_at_last<'a>(
+    rt: &(impl Abort + AllocGlobal),
+    shelf: &'a Shelf,
+) -> HostedMatch<ShelfKeeper<'a>> {
+    match begun(rt.alloc(), shelf) {
+        Some(hosted) => hosted,
+        None => begun(rt.alloc(), shelf).expect(rt, "memory"),
+    }
+}
+
+fn begun(alloc: Global, shelf: &Shelf) -> Option<HostedMatch<ShelfKeeper<'_>>> {
+    let terms = Terms {
+        length: 3,
+        rules: Rules::One,
+    };
+    HostedMatch::begin(alloc, 7, terms, [3; 32], shelf.keepers()).ok()
+}
+
+/// Three entries come about, the first one under this number or above it.
+fn play(rt: &(impl Abort + AllocGlobal), hosted: &mut HostedMatch<ShelfKeeper<'_>>, first: u32) {
+    settle(hosted);
+    assert!(rt; hosted.told() >= first, "{first} entries");
+    for _ in 0..3u32 {
+        act_at_last(rt, hosted);
+    }
+}
+
+/// Ticks until nothing is left to do, or for so long.
+fn settle(hosted: &mut HostedMatch<ShelfKeeper<'_>>) {
+    for _ in 0..80u32 {
+        if hosted.is_restless() {
+            hosted.tick();
+        }
+    }
+}
+
+/// The next entry comes about, by a further try where there was no memory for it.
+fn act_at_last(rt: &(impl Abort + AllocGlobal), hosted: &mut HostedMatch<ShelfKeeper<'_>>) {
+    let number = hosted.told().saturating_add(1);
+    for _ in 0..3u32 {
+        if hosted.told() < number {
+            act(rt.alloc(), hosted, number);
+            settle(hosted);
+        }
+    }
+    assert!(rt; hosted.told() >= number, "entry {number}");
+}
+
+/// Who is to act does as an entry what an automatic player would do.
+fn act(alloc: Global, hosted: &mut HostedMatch<ShelfKeeper<'_>>, number: u32) {
+    let Some(record) = hosted.shown() else {
+        return;
+    };
+    let Actor::Seat(player) = record.actor() else {
+        return;
+    };
+    if let Ok(Some(action)) = auto_action(alloc, record, player) {
+        let _ = hosted.act(player, number, action);
+    }
+}
+
+/// Fails where the growth that comes next is refused: so `tools/checks/refuse_growths` learns how
+/// many came before.
+fn check_no_growth_is_left(rt: &(impl Abort + AllocGlobal)) {
+    let growth = Vec::<u8>::with_capacity(rt.alloc(), 1);
+    assert!(rt; growth.is_ok(), "no growth is left");
+}
