@@ -19,6 +19,9 @@ pub(crate) const TELLER: u8 = FIRST_WATCHER;
 /// The parties that follow the referee: the two seats and the teller.
 pub(crate) const FOLLOWERS: [u8; 3] = [SEAT_OF_X, SEAT_OF_O, TELLER];
 
+/// The parties that save, and so can restart.
+const SAVERS: [u8; 3] = [REFEREE, SEAT_OF_X, SEAT_OF_O];
+
 /// A match whose parties all run in this process: the referee, the two seats, and a watcher, the
 /// teller. They send through a queue in memory, and save through keepers.
 ///
@@ -127,15 +130,35 @@ impl<K: Keeper> HostedMatch<K> {
         self.restless
     }
 
-    /// Lets the seats and the teller send what is due, and then lets all parties work until nothing
-    /// moves. Call it again after a while if [`HostedMatch::is_restless`] says so.
+    /// Restarts each party whose last restart has failed, lets the seats and the teller send what
+    /// is due, and then lets all parties work until nothing moves. Call it again after a while if
+    /// [`HostedMatch::is_restless`] says so.
     pub fn tick(&mut self)
         ensures { GoesOn K.is_honest (world_of K.Keeper self.old) (world_of K.Keeper self.new) }
     {
+        self.restart_lost();
         for party in FOLLOWERS {
             let _ = self.pass(Event::Tick { party });
         }
         self.settle();
+    }
+
+    /// Restarts each party that saves and is down, since its last restart has failed.
+    fn restart_lost(&mut self)
+        ensures { GoesOn K.is_honest (world_of K.Keeper self.old) (world_of K.Keeper self.new) }
+    {
+        for party in SAVERS {
+            self.restart_if_down(party);
+        }
+    }
+
+    /// Restarts a party that is down.
+    fn restart_if_down(&mut self, party: u8)
+        ensures { GoesOn K.is_honest (world_of K.Keeper self.old) (world_of K.Keeper self.new) }
+    {
+        if self.world.held(party).is_none() {
+            self.restart(party);
+        }
     }
 
     /// Restarts the parties that save from what their keepers hold, and lets all parties work until

@@ -9,4 +9,5 @@ pub loop-party-preserved : goal.loop-party-preserved
 loop-party-preserved g c = goes_further _ _ _ _ c.loop-party.invariant c.pass.ensures
 
 pub returns : goal.returns
-returns g c = goes_further _ _ _ _ c.loop-party.invariant c.settle.ensures
+returns g c =
+    goes_further _ _ _ _ c.restart_lost.ensures (goes_further _ _ _ _ c.loop-party.invariant c.settle.ensures)
