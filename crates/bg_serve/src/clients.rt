@@ -35,7 +35,7 @@ pub(crate) struct Client {
 }
 
 /// Returns the limits on what a client may send in a request.
-fn config() -> Config {
+pub(crate) fn config() -> Config {
     let mut config = Config::default();
     config.limits.max_head_len = MOST_HEAD;
     config.limits.max_trailers_len = MOST_HEAD;

@@ -50,6 +50,7 @@ mod tables;
 mod troubles;
 mod turn_saves;
 mod turns;
+mod visitors;
 mod watches;
 
 pub use folders::FolderStore;

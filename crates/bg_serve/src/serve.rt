@@ -96,11 +96,11 @@ fn go_on(
     for _ in 0..u64::MAX {
         let now = waited(rt, server.hear())?;
         if let Some(database) = database {
-            commit(rt, database, options.database.unwrap_or_default())?;
+            commit(rt, server, database, options.database.unwrap_or_default())?;
         }
         let made = waited(rt, server.tell(now))?;
         if let Some(database) = database {
-            commit(rt, database, options.database.unwrap_or_default())?;
+            commit(rt, server, database, options.database.unwrap_or_default())?;
             database.follow(now);
         }
         tell_turn(rt, server, made, options.folder, failures);
@@ -121,16 +121,26 @@ pub(crate) fn tell_turn(
     say_failures(rt, failures, folder);
 }
 
-/// Commits what was saved in a turn. Tries it again as long as it fails, and says so.
-fn commit(rt: &HostRuntime, database: &mut Database<'_>, path: &str) -> Result<(), Ending> {
+/// Commits what was saved in a turn. Tries it again as long as it fails, and says so, also to
+/// whoever comes meanwhile.
+fn commit(
+    rt: &HostRuntime,
+    server: &mut Server<'_>,
+    database: &mut Database<'_>,
+    path: &str,
+) -> Result<(), Ending> {
     let mut failed = None;
     for _ in 0..u64::MAX {
         let before = failed;
         failed = database.commit().err();
         tell_outage(rt, path, before, failed);
         if failed.is_none() {
+            if before.is_some() {
+                server.welcome();
+            }
             return Ok(());
         }
+        server.turn_away();
         waited(rt, database.pause())?;
     }
     Ok(())

@@ -6,6 +6,7 @@ use crate::limits::MOST_MADE;
 use crate::quotas::Quota;
 use crate::served_keepers::ServedKeeper;
 use crate::sockets::Sockets;
+use crate::visitors::Visitor;
 use bg_processes::{Failures, FolderLock};
 use bg_requests::is_name;
 use bg_site::Site;
@@ -48,6 +49,8 @@ pub struct Server<'a> {
     pub(crate) ticked: u64,
     /// Whether connections may wait to be accepted.
     pub(crate) is_accepting: bool,
+    /// Whoever has come while nothing could be saved.
+    pub(crate) visitors: Vec<Visitor>,
 }
 
 impl<'a> Server<'a> {
@@ -106,6 +109,7 @@ impl<'a> Server<'a> {
             looked: 0,
             ticked: 0,
             is_accepting: true,
+            visitors: Vec::new(rt.alloc()),
         }
     }
 

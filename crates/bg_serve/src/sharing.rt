@@ -99,7 +99,7 @@ impl<'a> Shared<'a> {
     /// that may rest on anything else are let go of: they come again, and send again.
     fn commit(&mut self, server: &mut Server<'_>) -> Result<(), Ending> {
         for _ in 0..u64::MAX {
-            let lost = self.committed()?;
+            let lost = self.committed(server)?;
             if lost.is_empty() {
                 break;
             }
@@ -112,17 +112,23 @@ impl<'a> Shared<'a> {
         Ok(())
     }
 
-    /// Puts into the store what was saved, and tries it again as long as that fails. Returns the
-    /// matches with which another server went on first.
-    fn committed(&mut self) -> Result<Vec<String>, Ending> {
+    /// Puts into the store what was saved, and tries it again as long as that fails; whoever comes
+    /// meanwhile is told so. Returns the matches with which another server went on first.
+    fn committed(&mut self, server: &mut Server<'_>) -> Result<Vec<String>, Ending> {
+        let mut has_failed = false;
         for _ in 0..u64::MAX {
             match self.cluster.commit() {
                 Ok(lost) => {
+                    if has_failed {
+                        server.welcome();
+                    }
                     self.tell_well();
                     return Ok(lost);
                 }
                 Err(trouble) => self.tell_trouble(&trouble),
             }
+            has_failed = true;
+            server.turn_away();
             waited(self.rt, self.cluster.pause())?;
         }
         Ok(Vec::new(self.rt.alloc()))

@@ -130,7 +130,7 @@ def renew_elsewhere(fleet, made):
 
 
 def lose_the_cluster(fleet, cluster):
-    """While most members are gone nobody is told that anything is done; later all goes on."""
+    """While most members are gone nobody is told that anything is done, and whoever comes is told so; later all goes on."""
     made = fleet[0].make(length=3)
     name = made["match"]
     right(fleet.all_have(name, 1), "a match is not at all servers")
@@ -148,9 +148,12 @@ def lose_the_cluster(fleet, cluster):
     except (Closed, OSError):
         pass
     right(not any(message.get("done") or message.get("number", 0) > 1 for message in told), f"without a cluster: {told}")
+    status, _, text = fleet[0].ask("/health")
+    right((status, text) == (503, b"nothing can be saved at the moment: try again later\n"), f"without a cluster: {status} {text}")
     for at in range(1, cluster.count):
         cluster.begin_member(at)
     cluster.wait()
+    right(comes(lambda: fleet[0].ask("/health")[0] == 200), "a server is not well when the cluster is back")
     link.sock.settimeout(60)
     right(comes_to(link, 2), "the match does not go on when the cluster is back")
     right(len(same_lines(fleet, name)) == 3, "servers lack what was saved when the cluster came back")

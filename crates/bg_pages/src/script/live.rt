@@ -3,7 +3,11 @@
 pub(crate) const TEXT: &str = r#"
 // ---- The socket: it comes back by itself. An action that was sent is sent again until it is
 // answered; it has the number of the entry that it is to become, so it acts once.
-let socket = null, pause = 500, beat = null;
+let socket = null, pause = 500, beat = null, late = null;
+
+// So many milliseconds an answer may take, and so many entries a match may have, before the page
+// says so.
+const LATE = 3000, LONG = 40000;
 
 const isPlayer = () => location.pathname === '/play';
 
@@ -22,6 +26,7 @@ function connect() {
   socket.onclose = () => {
     netSays('away, trying again', 'gone');
     clearTimeout(beat);
+    clearTimeout(late);
     if (game.refused) return netSays('no such seat', 'gone');
     beat = setTimeout(connect, pause);
     pause = Math.min(pause * 2, 8000);
@@ -34,7 +39,17 @@ function netSays(words, kind) {
 }
 
 function sendOpen() {
-  if (game.open && socket && socket.readyState === 1) socket.send(`act ${game.open.number} ${game.open.words}`);
+  if (!game.open || !socket || socket.readyState !== 1) return;
+  socket.send(`act ${game.open.number} ${game.open.words}`);
+  clearTimeout(late);
+  late = setTimeout(() => netSays('no answer yet, the server waits', 'gone'), LATE);
+}
+
+// The action that was sent is answered.
+function closeOpen() {
+  game.open = null;
+  clearTimeout(late);
+  netSays('live', 'here');
 }
 
 function hear(message) {
@@ -59,11 +74,11 @@ function hearGreeting(message) {
 function hearAnswer(message) {
   if (!game.open || message.re !== game.open.number) return;
   if (message.no) {
-    game.open = null;
+    closeOpen();
     say(message.no === 'another entry' ? 'That was answered already.' : 'The server says: ' + message.no + '.');
     draw();
   } else if (message.done) {
-    game.open = null;
+    closeOpen();
     draw();
   }
 }
@@ -72,7 +87,7 @@ function hearState(state) {
   const before = game.state, isNew = !before || before.number !== state.number;
   game.state = state;
   if (state.winner && !(before && before.winner)) drawLinks();
-  if (game.open && state.number >= game.open.number) game.open = null;
+  if (game.open && state.number >= game.open.number) closeOpen();
   if (isNew) {
     game.steps = [];
     game.from = null;
@@ -80,6 +95,7 @@ function hearState(state) {
     const position = { mine: countsOf(state, side), theirs: countsOf(state, other(side)) };
     game.ways = state.may && state.may.includes('move') ? waysOf(position, state.dice) : [];
     takeLines(state);
+    if (state.number > LONG) say('This match is very long: servers that share a store take some 45,000 entries of it.');
   }
   draw();
   if (game.wanted >= 0) {

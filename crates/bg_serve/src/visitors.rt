@@ -1,0 +1,98 @@
+//! Whoever comes while a server waits to save: it is told so, and let go of.
+
+use crate::clients::config;
+use crate::exchanges::{read_http, write_http};
+use crate::servers::Server;
+use bg_pages::{add_common, refuse};
+use bytes::Bytes;
+use http::{Request, StatusCode};
+use http_server::{Connection, Response, Service};
+use mio::net::TcpStream;
+use std::alloc::AllocError;
+use std::hash::RandomState;
+use std::io;
+
+/// At most so many visitors are there at once. Others wait to be accepted.
+const MOST_VISITORS: usize = 64;
+
+/// A visitor is let go of after so many looks.
+const MOST_LOOKS: u32 = 20;
+
+/// What whoever comes is told.
+const NOT_NOW: &str = "nothing can be saved at the moment: try again later\n";
+
+/// Answers each request that nothing can be done now.
+#[derive(Drop)]
+struct NotNow {}
+
+impl Service for NotNow {
+    ghost answers = { λ _ _ _ _. Unit {0} };
+
+    fn call(
+        &mut self,
+        _request: &Request<Bytes>,
+        response: &mut Response,
+    ) -> Result<(), AllocError> {
+        add_common(response)?;
+        refuse(response, StatusCode::SERVICE_UNAVAILABLE, NOT_NOW)
+    }
+}
+
+/// A connection that has come while the server waits.
+#[derive(Drop)]
+pub(crate) struct Visitor {
+    stream: TcpStream,
+    connection: Connection,
+    /// How often it was looked at; `MOST_LOOKS` once it is to go.
+    looks: u32,
+}
+
+impl Visitor {
+    /// Reads requests, and answers them.
+    fn look(&mut self) {
+        self.looks = self.looks.saturating_add(1);
+        let is_there = read_http(&mut self.connection, &mut self.stream).is_some();
+        self.connection.advance(&mut NotNow {});
+        let is_told = write_http(&mut self.connection, &mut self.stream).is_some();
+        if !is_there || !is_told || self.connection.is_done() {
+            self.looks = MOST_LOOKS;
+        }
+    }
+}
+
+impl<'a> Server<'a> {
+    /// Tells whoever comes that nothing can be saved now. It is called again and again, as long as
+    /// that is so.
+    pub(crate) fn turn_away(&mut self) {
+        for _ in 0..MOST_VISITORS {
+            if self.visitors.len() >= MOST_VISITORS {
+                break;
+            }
+            let Ok((stream, _)) = self.listener.accept() else {
+                break;
+            };
+            let _ = self.visit(stream);
+        }
+        for visitor in self.visitors.iter_mut() {
+            visitor.look();
+        }
+        self.visitors.retain(|visitor| visitor.looks < MOST_LOOKS);
+    }
+
+    /// Notes that somebody has come.
+    fn visit(&mut self, stream: TcpStream) -> io::Result<()> {
+        let keys = RandomState::new(self.rt)?;
+        self.visitors.push(Visitor {
+            stream,
+            connection: Connection::new(self.rt.alloc(), keys, config()),
+            looks: 0,
+        })?;
+        Ok(())
+    }
+
+    /// Lets go of whoever has come meanwhile: they come again. Connections may wait to be accepted.
+    pub(crate) fn welcome(&mut self) {
+        self.visitors.clear();
+        self.is_accepting = true;
+    }
+}
