@@ -6,8 +6,8 @@ pub(crate) const TEXT: &str = r#"
 let socket = null, pause = 500, beat = null, late = null;
 
 // So many milliseconds an answer may take, and so many entries a match may have, before the page
-// says so.
-const LATE = 3000, LONG = 40000;
+// says so; and so often a seat may be refused before it is given up.
+const LATE = 3000, LONG = 40000, REFUSALS = 6;
 
 const isPlayer = () => location.pathname === '/play';
 
@@ -58,10 +58,20 @@ function hear(message) {
   if (message.here) { game.here = message.here; return draw(); }
   if (message.hello) return;
   if (message.re !== undefined) return hearAnswer(message);
-  if (message.no && isPlayer() && !game.match) { game.refused = true; say('This link is no seat of a match here.'); }
+  if (message.no && isPlayer() && !game.match) hearNoSeat();
+}
+
+// Another server may have made the match, or a new link, a moment ago: it is asked for again.
+function hearNoSeat() {
+  game.refusals++;
+  pause = 2000;
+  game.refused = game.refusals >= REFUSALS;
+  say(game.refused ? 'This link is no seat of a match here.' : 'This link is no seat of a match here yet, trying again.');
 }
 
 function hearGreeting(message) {
+  if (game.refusals) say('');
+  game.refusals = 0;
   game.match = message.match;
   game.names = message.names;
   game.you = message.you;
@@ -95,7 +105,10 @@ function hearState(state) {
     const position = { mine: countsOf(state, side), theirs: countsOf(state, other(side)) };
     game.ways = state.may && state.may.includes('move') ? waysOf(position, state.dice) : [];
     takeLines(state);
-    if (state.number > LONG) say('This match is very long: servers that share a store take some 45,000 entries of it.');
+    if (state.number > LONG && !game.isLong) {
+      game.isLong = true;
+      say('This match is very long: servers that share a store take some 45,000 entries of it.');
+    }
   }
   draw();
   if (game.wanted >= 0) {

@@ -6,7 +6,7 @@ pub(crate) const TEXT: &str = r#"
 const game = {
   match: '', names: ['', ''], you: '', dice: '', here: [false, false, 0],
   state: null, earlier: null, lines: [], steps: [], from: null, ways: [], open: null, secret: '', isMine: false,
-  wanted: NaN, asked: 0,
+  wanted: NaN, asked: 0, refusals: 0, refused: false, isLong: false,
 };
 
 const shownState = () => game.earlier || game.state;
