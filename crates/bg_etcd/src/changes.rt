@@ -46,6 +46,11 @@ impl Changes {
         Ok(())
     }
 
+    /// Returns whether a file of this name is among them.
+    pub fn has(&self, name: &str) -> bool {
+        self.files.iter().any(|file| file.name.as_str() == name)
+    }
+
     /// Returns the number of bytes of its texts.
     pub fn bytes(&self) -> usize {
         let mut bytes = 0usize;

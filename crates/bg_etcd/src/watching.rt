@@ -4,6 +4,7 @@ use crate::answers::{bytes_in, name_in, number_in};
 use crate::faults::Fault;
 use serde_json::Value;
 use std::alloc::Global;
+use std::io::ErrorKind;
 
 /// A change of a file.
 #[derive(Drop)]
@@ -20,21 +21,21 @@ pub struct Event {
 pub enum News {
     /// Changes, in their order; none where the line only says that the watch has begun.
     Events(Vec<Event>),
-    /// The watch has ended: the revision from which it was to tell is forgotten, or the member
-    /// goes away.
+    /// The watch has ended: the revision from which it was to tell is forgotten.
     Ended,
 }
 
 /// Returns what a line of a watch tells.
 ///
 /// # Errors
-/// `Unreadable` where it is none of etcd's; `Memory` where there is none for it.
+/// `Away` where it says that the watch fails, as that of a member that ends; `Unreadable` where it
+/// is none of etcd's; `Memory` where there is none for it.
 pub fn news_in(alloc: Global, line: &[u8]) -> Result<News, Fault> {
     let Ok(value) = Value::from_slice(alloc, line) else {
         return Err(Fault::Unreadable);
     };
     let Some(told) = value.get("result") else {
-        return Ok(News::Ended);
+        return Err(Fault::Away(ErrorKind::UnexpectedEof));
     };
     if told.get("canceled").is_some() {
         return Ok(News::Ended);

@@ -49,6 +49,11 @@ impl Behind {
         }
     }
 
+    /// Notes that a file is gone.
+    pub(crate) fn forget(&mut self, name: &str) {
+        self.files.retain(|file| file.name.as_str() != name);
+    }
+
     /// Notes the newest text of a file.
     fn put(&mut self, file: FileText) {
         let place = self.place_of(file.name.as_str());

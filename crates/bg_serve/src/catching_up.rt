@@ -32,6 +32,7 @@ impl<'a> Cluster<'a> {
     pub(crate) fn catch_up(&mut self) -> Result<Vec<String>, Trouble> {
         let alloc = self.rt.alloc();
         let mut page = self.page("", 0)?;
+        self.check_age(page.revision)?;
         let mut reading = Reading {
             folder: String::new(alloc),
             files: Vec::new(alloc),

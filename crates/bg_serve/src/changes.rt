@@ -44,6 +44,12 @@ pub(crate) fn take_changes(rt: &HostRuntime, tables: &str) -> io::Result<Vec<Str
     Ok(names)
 }
 
+/// Returns whether the operator has changed a match, and that was not taken in yet.
+pub(crate) fn is_changed(rt: &HostRuntime, tables: &str, name: &str) -> io::Result<bool> {
+    let path = change_path(rt.alloc(), tables, name)?;
+    Ok(fs::metadata(rt, path.as_str()).is_ok())
+}
+
 /// Returns the path of the file that says that a match was changed.
 fn change_path(alloc: Global, tables: &str, name: &str) -> Result<String, AllocError> {
     let folder = path_in(alloc, tables, CHANGES)?;

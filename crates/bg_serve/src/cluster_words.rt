@@ -45,6 +45,9 @@ pub(crate) fn not_joined(rt: &HostRuntime, folder: &str, words: &str, why: &Unjo
 /// Returns the words on a trouble.
 fn reason_of(trouble: &Trouble) -> &str {
     match trouble {
+        Trouble::Older => {
+            "it is older than what was read of it: end all servers, and then start them again"
+        }
         Trouble::Folder(_) => "the folder can't be read or written",
         Trouble::Store(Fault::Away(ErrorKind::WouldBlock)) => "no member answers in time",
         Trouble::Store(Fault::Away(_)) => "no member can be reached",
@@ -63,6 +66,24 @@ pub(crate) fn tell_trouble(rt: &HostRuntime, words: &str, trouble: &Trouble) {
             "the store {words} can't be used: {reason}; nobody is told anything that it has not"
         ),
     );
+}
+
+/// Says that no watch of a store tells what changes, or that one does again.
+pub(crate) fn tell_watch(rt: &HostRuntime, words: &str, is_untold: bool) {
+    let words = Printable(words);
+    if is_untold {
+        say(
+            rt,
+            format_args!(
+                "no member of {words} tells what other servers do: all is read every 10 seconds"
+            ),
+        );
+    } else {
+        say(
+            rt,
+            format_args!("{words} tells again what other servers do"),
+        );
+    }
 }
 
 /// Says that a store can be used again.

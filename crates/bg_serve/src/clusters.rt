@@ -10,7 +10,7 @@ use crate::save_counts::{SaveCounts, micros_since};
 use crate::troubles::Trouble;
 use crate::turn_saves::TurnSaves;
 use crate::watches::Watch;
-use bg_etcd::{Changes, Fault, Taken, removal_text, taken_in, transaction_text};
+use bg_etcd::{Changes, Fault, removal_text, taken_in, transaction_text};
 use bg_journal::Change;
 use mio::{Events, Poll};
 use std::io;
@@ -29,20 +29,26 @@ pub(crate) struct Cluster<'a> {
     pub(crate) saves: Rc<TurnSaves>,
     counts: Rc<SaveCounts>,
     pub(crate) known: Known,
-    pending: Pending,
+    /// The matches that this server has removed, and the revisions of that.
+    pub(crate) removed: Known,
+    pub(crate) pending: Pending,
     /// The matches with which another server went on first.
-    lost: Vec<String>,
+    pub(crate) lost: Vec<String>,
     pub(crate) watch: Option<Watch>,
     /// Which member is asked for the watch, and up to which revision it has told.
     pub(crate) watch_at: usize,
     pub(crate) watched: u64,
-    /// The seconds in which the watch was begun or has told something, in which it was asked
-    /// whether it does, and in which the files have followed.
+    /// The seconds in which a watch has told something, or all was read; in which the watch was
+    /// begun or has told something; in which it was asked whether it does; and in which the files
+    /// have followed.
+    pub(crate) told: u64,
     pub(crate) heard: u64,
     pub(crate) pulsed: u64,
     followed: u64,
     /// Whether changes may have been missed.
     pub(crate) is_stale: bool,
+    /// Whether the store was found to be older than what was read of it.
+    pub(crate) is_older: bool,
 }
 
 impl<'a> Cluster<'a> {
@@ -60,15 +66,18 @@ impl<'a> Cluster<'a> {
             saves,
             counts,
             known: Known::nothing(rt.alloc()),
+            removed: Known::nothing(rt.alloc()),
             pending: Pending::nothing(rt.alloc()),
             lost: Vec::new(rt.alloc()),
             watch: None,
             watch_at: 0,
             watched: 0,
+            told: 0,
             heard: 0,
             pulsed: 0,
             followed: 0,
             is_stale: false,
+            is_older: false,
         }
     }
 
@@ -79,6 +88,7 @@ impl<'a> Cluster<'a> {
     /// # Errors
     /// Why it could not be put. Nothing is lost: the next call tries it again.
     pub(crate) fn commit(&mut self) -> Result<Vec<String>, Trouble> {
+        self.check_age(self.watched)?;
         self.gather()?;
         if !self.pending.is_empty() {
             let begun = Instant::now(self.rt).ok();
@@ -123,6 +133,10 @@ impl<'a> Cluster<'a> {
                 Change::Remove(folder) => {
                     self.pending.add_removal(&self.known, folder.as_str())?;
                     self.known.forget(folder.as_str());
+                    let folder = String::from_str(self.rt.alloc(), folder.as_str())?;
+                    if let Ok(mut behind) = saves.behind.try_borrow_mut() {
+                        behind.note(Change::Remove(folder));
+                    }
                 }
             }
         }
@@ -154,8 +168,9 @@ impl<'a> Cluster<'a> {
         let text = removal_text(alloc, removal.folder.as_str(), removal.known)?;
         let (status, body) = self.ask("/v3/kv/txn", text.as_str())?;
         let taken = taken_in(alloc, status, &body)?;
+        self.check_age(taken.revision)?;
         if taken.is_taken || taken.files.is_empty() {
-            let _ = self.pending.removals.pop();
+            self.note_removed(taken.revision)?;
         } else if let Some(removal) = self.pending.removals.last_mut() {
             removal.known = taken.revision;
         }
@@ -170,6 +185,7 @@ impl<'a> Cluster<'a> {
         let text = transaction_text(alloc, some)?;
         let (status, body) = self.ask("/v3/kv/txn", text.as_str())?;
         let taken = taken_in(alloc, status, &body)?;
+        self.check_age(taken.revision)?;
         if taken.is_taken {
             return self.note_taken(count, taken.revision);
         }
@@ -178,36 +194,6 @@ impl<'a> Cluster<'a> {
             return Ok(());
         }
         self.note_refused(taken)
-    }
-
-    /// Notes that the first matches were put.
-    fn note_taken(&mut self, count: usize, revision: u64) -> Result<(), Trouble> {
-        for _ in 0..count {
-            let Some(changes) = self.pending.take_first() else {
-                break;
-            };
-            self.known.note(changes.folder.as_str(), revision)?;
-            for file in changes.files {
-                self.place(file)?;
-            }
-        }
-        Ok(())
-    }
-
-    /// Notes that the first match was refused: another server went on with it, unless what it has
-    /// is what was to be put, as where an answer was lost.
-    fn note_refused(&mut self, taken: Taken) -> Result<(), Trouble> {
-        let Some(changes) = self.pending.changes.first() else {
-            return Ok(());
-        };
-        if changes.are_all_in(&taken.files) {
-            return self.note_taken(1, taken.revision);
-        }
-        let name = String::from_str(self.rt.alloc(), changes.folder.as_str())?;
-        self.take_in(name.as_str(), taken.files, taken.revision)?;
-        self.lost.push(name)?;
-        let _ = self.pending.take_first();
-        Ok(())
     }
 
     /// Writes the files that are older than the store, once a second.

@@ -1,5 +1,6 @@
 //! The folder of a server that shares its matches: a copy of what the store has.
 
+use crate::changes::is_changed;
 use crate::marks::{hide, is_hidden, show};
 use bg_console::path_in;
 use bg_etcd::File;
@@ -55,6 +56,14 @@ pub(crate) fn parts_of(name: &str) -> Option<(&str, &str)> {
 /// Returns whether a file is one that a party writes.
 pub(crate) fn is_slot(file: &str) -> bool {
     SLOTS.iter().any(|slot| *slot == file)
+}
+
+/// Returns whether the file of this name in the store is one that a party writes.
+pub(crate) fn is_slot_name(name: &str) -> bool {
+    match parts_of(name) {
+        Some((_, file)) => is_slot(file),
+        None => false,
+    }
 }
 
 /// The folder of all matches, where it is a copy.
@@ -122,6 +131,39 @@ impl<'a> Copies<'a> {
             renamed => renamed?,
         }
         fs::remove_dir_all(self.rt, gone.as_str())
+    }
+
+    /// Removes the file of a slot by its name in the store, if it is there.
+    ///
+    /// # Errors
+    /// Why it could not be removed.
+    pub(crate) fn remove_slot(&self, name: &str) -> io::Result<()> {
+        let path = path_in(self.rt.alloc(), self.folder, name)?;
+        match fs::remove_file(self.rt, path.as_str()) {
+            Err(error) if error.kind() == ErrorKind::NotFound => Ok(()),
+            removed => removed,
+        }
+    }
+
+    /// Removes what is left of the folder of a match, unless it is that of a match again.
+    ///
+    /// # Errors
+    /// Why it could not be removed.
+    pub(crate) fn remove_rest(&self, folder: &str) -> io::Result<()> {
+        let above = path_in(self.rt.alloc(), self.folder, folder)?;
+        let path = path_in(self.rt.alloc(), above.as_str(), MATCH)?;
+        if fs::metadata(self.rt, path.as_str()).is_ok() {
+            return Ok(());
+        }
+        self.remove(folder)
+    }
+
+    /// Returns whether the operator has changed a match, and that was not taken in yet.
+    ///
+    /// # Errors
+    /// Memory.
+    pub(crate) fn is_changed(&self, folder: &str) -> io::Result<bool> {
+        is_changed(self.rt, self.folder, folder)
     }
 
     /// Returns the names of the matches that are played here: those that have seats.

@@ -138,11 +138,18 @@ impl<'a> Cluster<'a> {
         Ok(owner_in(taken.files).unwrap_or(owner))
     }
 
-    /// Removes the matches of the folder of which the store has nothing: they were deleted.
+    /// Removes the matches of the folder of which the store has nothing: they were deleted. One
+    /// that the operator has restored since is put into the store.
     fn remove_others(&mut self) -> Result<(), Trouble> {
         for name in self.copies.names()? {
-            if self.known.of(name.as_str()) == 0 {
-                self.copies.remove(name.as_str())?;
+            let name = name.as_str();
+            if self.known.of(name) > 0 {
+                continue;
+            }
+            if self.copies.is_changed(name)? {
+                self.add_all(name)?;
+            } else {
+                self.copies.remove(name)?;
             }
         }
         Ok(())

@@ -35,6 +35,8 @@ mod members;
 mod news;
 mod notes;
 mod pending;
+mod placing;
+mod putting;
 mod quotas;
 mod save_counts;
 mod saved_records;

@@ -56,6 +56,11 @@ impl<'a> Members<'a> {
         }
     }
 
+    /// Returns how often all members come before a place, counted round.
+    pub(crate) fn round_of(&self, place: usize) -> usize {
+        place.checked_div(self.hosts.len()).unwrap_or(0)
+    }
+
     /// Asks the next member from now on.
     fn turn(&mut self) {
         self.line = None;

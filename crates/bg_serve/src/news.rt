@@ -1,16 +1,18 @@
 //! What other servers have made of the matches: a watch of the store tells it.
 
 use crate::clusters::Cluster;
-use crate::copies::{MATCH, is_slot, parts_of};
+use crate::copies::{MATCH, parts_of};
 use crate::troubles::Trouble;
 use crate::watches::{Told, Watch};
 use bg_etcd::{Event, File, put_text, revision_in};
-use bg_journal::{Change, FileText};
 use mio::Registry;
 
 /// A watch that was silent for so many seconds is asked whether it still tells, and one that was so
 /// for as many more is given up.
 const MOST_SILENT: u64 = 2;
+
+/// Where no watch tells anything for more than so many seconds, all that the store has is read.
+const MOST_UNTOLD: u64 = 10;
 
 /// The file that is written to see whether a watch tells of it.
 const PULSE: &str = ".pulse";
@@ -30,7 +32,7 @@ impl<'a> Cluster<'a> {
     /// # Errors
     /// Why the store could not be asked, or the folder not be written.
     pub(crate) fn news(&mut self, registry: &Registry, now: u64) -> Result<Vec<String>, Trouble> {
-        if self.is_stale {
+        if self.is_stale || self.is_untold(now) {
             return self.catch_up_once(now);
         }
         let Some(watch) = &mut self.watch else {
@@ -42,7 +44,9 @@ impl<'a> Cluster<'a> {
         match watch.told() {
             Ok(Told::Events(Some(events))) => {
                 self.heard = now;
-                self.members.is_answering = true;
+                self.told = now;
+                // A member says that a watch has begun also where most others are away.
+                self.members.is_answering |= !events.is_empty();
                 self.take_events(events)
             }
             Ok(Told::Events(None)) => self.wait_for_watch(now),
@@ -64,7 +68,14 @@ impl<'a> Cluster<'a> {
             return Ok(Vec::new(self.rt.alloc()));
         }
         self.heard = now;
-        self.catch_up()
+        let names = self.catch_up()?;
+        self.told = now;
+        Ok(names)
+    }
+
+    /// Returns whether no watch has told anything for long.
+    pub(crate) fn is_untold(&self, now: u64) -> bool {
+        now.saturating_sub(self.told) > MOST_UNTOLD
     }
 
     /// Begins a watch of what changes from now on. Where that fails, the next second tries another
@@ -73,7 +84,11 @@ impl<'a> Cluster<'a> {
         self.heard = now;
         self.pulsed = now;
         let next = self.watched.saturating_add(1);
-        match Watch::begin(self.rt, registry, self.members.host_at(self.watch_at), next) {
+        let (host, round) = (
+            self.members.host_at(self.watch_at),
+            self.members.round_of(self.watch_at),
+        );
+        match Watch::begin(self.rt, registry, (host, round), next) {
             Ok(watch) => self.watch = Some(watch),
             Err(_) => self.end_watch(),
         }
@@ -95,7 +110,8 @@ impl<'a> Cluster<'a> {
             self.pulsed = now;
             let text = put_text(self.rt.alloc(), PULSE, b"")?;
             let (status, body) = self.ask("/v3/kv/put", text.as_str())?;
-            revision_in(self.rt.alloc(), status, &body)?;
+            let revision = revision_in(self.rt.alloc(), status, &body)?;
+            self.check_age(revision)?;
         } else if now.saturating_sub(self.pulsed) > MOST_SILENT {
             self.end_watch();
         }
@@ -124,7 +140,8 @@ impl<'a> Cluster<'a> {
         Ok(names)
     }
 
-    /// Takes in a change, unless it is known: it may be this server's own.
+    /// Takes in a change, unless it is known: it may be this server's own, as a removal whose match
+    /// was restored since.
     fn take_event(&mut self, event: Event, all: &mut Vec<Seen>) -> Result<(), Trouble> {
         let Event {
             name,
@@ -134,7 +151,7 @@ impl<'a> Cluster<'a> {
         let Some((folder, file)) = parts_of(name.as_str()) else {
             return Ok(());
         };
-        if revision <= self.known.of(folder) {
+        if revision <= self.known.of(folder).max(self.removed.of(folder)) {
             return Ok(());
         }
         let is_heart = file == MATCH;
@@ -175,48 +192,5 @@ impl<'a> Cluster<'a> {
             is_gone,
         })?;
         Ok(())
-    }
-
-    /// Takes in a match as the store has it at a revision: its files, or that it has none.
-    pub(crate) fn take_in(
-        &mut self,
-        folder: &str,
-        files: Vec<File>,
-        revision: u64,
-    ) -> Result<(), Trouble> {
-        if files.is_empty() {
-            self.known.forget(folder);
-            return self.remove(folder);
-        }
-        for file in files {
-            self.place(file)?;
-        }
-        self.known.note(folder, revision)?;
-        Ok(())
-    }
-
-    /// Places a file of the store in the folder: one that a party writes follows later.
-    pub(crate) fn place(&self, file: File) -> Result<(), Trouble> {
-        let Some((folder, name)) = parts_of(file.name.as_str()) else {
-            return Ok(());
-        };
-        if !is_slot(name) {
-            return Ok(self.copies.write(folder, name, &file.text)?);
-        }
-        let File { name, text, .. } = file;
-        if let Ok(mut behind) = self.saves.behind.try_borrow_mut() {
-            behind.reserve(1)?;
-            behind.note(Change::Put(FileText { name, text }));
-        }
-        Ok(())
-    }
-
-    /// Removes the folder of a match.
-    fn remove(&self, folder: &str) -> Result<(), Trouble> {
-        let name = String::from_str(self.rt.alloc(), folder)?;
-        if let Ok(mut behind) = self.saves.behind.try_borrow_mut() {
-            behind.note(Change::Remove(name));
-        }
-        Ok(self.copies.remove(folder)?)
     }
 }

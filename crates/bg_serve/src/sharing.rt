@@ -1,6 +1,6 @@
 //! The turns of a server that shares its matches with others.
 
-use crate::cluster_words::{not_joined, tell_long, tell_lost, tell_trouble, tell_well};
+use crate::cluster_words::{not_joined, tell_long, tell_lost, tell_trouble, tell_watch, tell_well};
 use crate::clusters::Cluster;
 use crate::folders::FolderStore;
 use crate::joining::{Unjoined, join};
@@ -21,6 +21,7 @@ struct Shared<'a> {
     /// The option that names it.
     words: &'a str,
     is_away: bool,
+    is_untold: bool,
 }
 
 /// Serves the matches of a store, of which the folder is a copy, until the process is ended.
@@ -53,7 +54,10 @@ pub(crate) fn run_shared<'a>(
         cluster,
         words,
         is_away: false,
+        is_untold: false,
     };
+    // What the operator has changed while no server looked is put before anybody is served.
+    server.take_changes();
     shared.commit(&mut server)?;
     tell_begin(rt, &server);
     go_on(&mut shared, &mut server, options.folder, failures)
@@ -136,6 +140,7 @@ impl<'a> Shared<'a> {
 
     /// Takes in what other servers have made of the matches.
     fn take_news(&mut self, server: &mut Server<'_>, now: u64) -> Result<(), Ending> {
+        self.tell_watch(now);
         match self.cluster.news(server.poll.registry(), now) {
             Ok(names) if names.is_empty() => Ok(()),
             Ok(names) => {
@@ -148,6 +153,15 @@ impl<'a> Shared<'a> {
                 self.tell_trouble(&trouble);
                 Ok(())
             }
+        }
+    }
+
+    /// Says whether watches tell what other servers do, where that has changed.
+    fn tell_watch(&mut self, now: u64) {
+        let is_untold = !self.is_away && self.cluster.is_untold(now);
+        if is_untold != self.is_untold {
+            self.is_untold = is_untold;
+            tell_watch(self.rt, self.words, is_untold);
         }
     }
 

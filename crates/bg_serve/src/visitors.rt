@@ -53,8 +53,9 @@ impl Visitor {
         self.looks = self.looks.saturating_add(1);
         let is_there = read_http(&mut self.connection, &mut self.stream).is_some();
         self.connection.advance(&mut NotNow {});
-        let is_told = write_http(&mut self.connection, &mut self.stream).is_some();
-        if !is_there || !is_told || self.connection.is_done() {
+        let told = write_http(&mut self.connection, &mut self.stream);
+        let is_told = told == Some(true) && !self.connection.wants_write();
+        if !is_there || told.is_none() || is_told {
             self.looks = MOST_LOOKS;
         }
     }

@@ -5,7 +5,7 @@ use mio::net::TcpStream;
 use mio::{Interest, Registry, Token};
 use std::alloc::Global;
 use std::io::ErrorKind;
-use std::net::ToSocketAddrs;
+use std::net::{SocketAddr, ToSocketAddrs};
 
 /// The token of the watch, which no client has.
 pub(crate) const WATCH: Token = Token(usize::MAX);
@@ -31,20 +31,18 @@ pub(crate) enum Told {
 }
 
 impl Watch {
-    /// Asks a member to tell what changes from a revision on, and has the server woken then.
+    /// Asks a member to tell what changes from a revision on, and has the server woken then. Each
+    /// round takes another address of the member.
     ///
     /// # Errors
     /// Why it can't be asked.
     pub(crate) fn begin(
         rt: &HostRuntime,
         registry: &Registry,
-        host: &str,
+        (host, round): (&str, usize),
         revision: u64,
     ) -> Result<Watch, Fault> {
-        let Some(address) = host.to_socket_addrs(rt)?.next() else {
-            return Err(Fault::Away(ErrorKind::NotFound));
-        };
-        let mut stream = TcpStream::connect(rt, address)?;
+        let mut stream = TcpStream::connect(rt, address_of(rt, host, round)?)?;
         registry.register(&mut stream, WATCH, Interest::READABLE | Interest::WRITABLE)?;
         let mut exchange = Exchange::new(rt.alloc());
         let text = watch_text(rt.alloc(), revision)?;
@@ -106,5 +104,17 @@ impl Watch {
             }
         }
         Ok(true)
+    }
+}
+
+/// Returns an address of a member: in the first four rounds each of the first four, where it has so
+/// many, else the first.
+fn address_of(rt: &HostRuntime, host: &str, round: usize) -> Result<SocketAddr, Fault> {
+    if let Some(address) = host.to_socket_addrs(rt)?.nth(round & 3) {
+        return Ok(address);
+    }
+    match host.to_socket_addrs(rt)?.next() {
+        Some(address) => Ok(address),
+        None => Err(Fault::Away(ErrorKind::NotFound)),
     }
 }

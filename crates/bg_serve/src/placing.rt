@@ -1,0 +1,78 @@
+//! How the folder of a server gets what the store has.
+
+use crate::clusters::Cluster;
+use crate::copies::{SLOTS, is_slot, parts_of};
+use crate::troubles::Trouble;
+use bg_console::path_in;
+use bg_etcd::File;
+use bg_journal::{Change, FileText};
+
+impl<'a> Cluster<'a> {
+    /// Takes in a match as the store has it at a revision: its files, or that it has none.
+    pub(crate) fn take_in(
+        &mut self,
+        folder: &str,
+        files: Vec<File>,
+        revision: u64,
+    ) -> Result<(), Trouble> {
+        if files.is_empty() {
+            self.known.forget(folder);
+            return self.remove(folder);
+        }
+        self.remove_lacking(folder, &files)?;
+        for file in files {
+            self.place(file)?;
+        }
+        self.known.note(folder, revision)?;
+        Ok(())
+    }
+
+    /// Removes those slots of a match that the store has not: another life of it has left them.
+    fn remove_lacking(&self, folder: &str, files: &[File]) -> Result<(), Trouble> {
+        for slot in SLOTS.iter() {
+            let name = path_in(self.rt.alloc(), folder, slot)?;
+            if files.iter().any(|file| file.name.as_str() == name.as_str()) {
+                continue;
+            }
+            if let Ok(mut behind) = self.saves.behind.try_borrow_mut() {
+                behind.forget(name.as_str());
+            }
+            self.copies.remove_slot(name.as_str())?;
+        }
+        Ok(())
+    }
+
+    /// Places a file of the store in the folder: one that a party writes follows later. What the
+    /// operator has changed since stays: it will be put into the store.
+    pub(crate) fn place(&self, file: File) -> Result<(), Trouble> {
+        let Some((folder, name)) = parts_of(file.name.as_str()) else {
+            return Ok(());
+        };
+        if is_slot(name) {
+            return self.place_slot(file);
+        }
+        if !self.copies.is_changed(folder)? {
+            self.copies.write(folder, name, &file.text)?;
+        }
+        Ok(())
+    }
+
+    /// Notes that the file of a slot is behind the store.
+    pub(crate) fn place_slot(&self, file: File) -> Result<(), Trouble> {
+        let File { name, text, .. } = file;
+        if let Ok(mut behind) = self.saves.behind.try_borrow_mut() {
+            behind.reserve(1)?;
+            behind.note(Change::Put(FileText { name, text }));
+        }
+        Ok(())
+    }
+
+    /// Removes the folder of a match.
+    pub(crate) fn remove(&self, folder: &str) -> Result<(), Trouble> {
+        let name = String::from_str(self.rt.alloc(), folder)?;
+        if let Ok(mut behind) = self.saves.behind.try_borrow_mut() {
+            behind.note(Change::Remove(name));
+        }
+        Ok(self.copies.remove(folder)?)
+    }
+}

@@ -1,0 +1,94 @@
+//! What came of putting things into a store.
+
+use crate::clusters::Cluster;
+use crate::copies::is_slot_name;
+use crate::troubles::Trouble;
+use bg_etcd::{Changes, File, Taken};
+use std::alloc::{AllocError, Global};
+
+impl<'a> Cluster<'a> {
+    /// Notes that the last of the removals was made at a revision.
+    pub(crate) fn note_removed(&mut self, revision: u64) -> Result<(), Trouble> {
+        let Some(removal) = self.pending.removals.last() else {
+            return Ok(());
+        };
+        self.removed.note(removal.folder.as_str(), revision)?;
+        self.copies.remove_rest(removal.folder.as_str())?;
+        let _ = self.pending.removals.pop();
+        Ok(())
+    }
+
+    /// Notes where the store is older than what was read of it, as one that was restored from a
+    /// snapshot is. Nothing can be compared with it then.
+    ///
+    /// # Errors
+    /// `Older` where it is.
+    pub(crate) fn check_age(&mut self, revision: u64) -> Result<(), Trouble> {
+        self.is_older = self.is_older || revision < self.watched;
+        if self.is_older {
+            return Err(Trouble::Older);
+        }
+        Ok(())
+    }
+
+    /// Notes that the first matches were put. Files beside slots have come from the folder.
+    pub(crate) fn note_taken(&mut self, count: usize, revision: u64) -> Result<(), Trouble> {
+        for _ in 0..count {
+            let Some(changes) = self.pending.take_first() else {
+                break;
+            };
+            self.known.note(changes.folder.as_str(), revision)?;
+            for file in changes.files {
+                if is_slot_name(file.name.as_str()) {
+                    self.place_slot(file)?;
+                }
+            }
+        }
+        Ok(())
+    }
+
+    /// Notes that the first match was refused: another server went on with it, unless what it has
+    /// is what was to be put, as where an answer was lost.
+    pub(crate) fn note_refused(&mut self, taken: Taken) -> Result<(), Trouble> {
+        let Some(changes) = self.pending.changes.first() else {
+            return Ok(());
+        };
+        if changes.are_all_in(&taken.files) {
+            return self.note_taken(1, taken.revision);
+        }
+        let alloc = self.rt.alloc();
+        let Taken {
+            mut files,
+            revision,
+            ..
+        } = taken;
+        let name = String::from_str(alloc, changes.folder.as_str())?;
+        let again = changes_again(alloc, changes, revision)?;
+        let is_there = !files.is_empty();
+        files.retain(|file| !again.has(file.name.as_str()));
+        self.take_in(name.as_str(), files, revision)?;
+        self.lost.push(name)?;
+        let _ = self.pending.take_first();
+        // No match comes back by what the operator has changed of it.
+        if is_there && !again.files.is_empty() {
+            self.add(again)?;
+        }
+        Ok(())
+    }
+}
+
+/// Returns what the operator has changed of a match with which another server went on first: it is
+/// put once more.
+fn changes_again(alloc: Global, lost: &Changes, revision: u64) -> Result<Changes, AllocError> {
+    let mut again = Changes::new(alloc, lost.folder.as_str(), revision)?;
+    for file in lost.files.iter() {
+        if !is_slot_name(file.name.as_str()) {
+            again.put(File {
+                name: String::from_str(alloc, file.name.as_str())?,
+                text: file.text.as_slice().to_vec(alloc)?,
+                revision: 0,
+            })?;
+        }
+    }
+    Ok(again)
+}
