@@ -1,5 +1,4 @@
 """What one server sees of what others do, and of what it has missed."""
-import json
 import os
 import time
 
@@ -118,15 +117,20 @@ def renew_elsewhere(fleet, made):
     status, out, _ = manage(fleet[0], "--match", made["match"], "--new-link", "x")
     right(status == 0, "a seat has no new link")
     new, old = out.strip().split("#")[1], made["x"].split("#")[1]
-    def is_good(server, secret):
-        link = Socket(server.port, "/play/live", timeout=30)
-        link.send("hello " + secret)
-        try:
-            return link.message().get("hello", False)
-        except (Closed, OSError):
-            return False
-    right(comes(lambda: is_good(fleet[2], new)), "a new link is not good at another server")
-    right(not is_good(fleet[2], old), "an old link is good at another server")
+    right(comes(lambda: is_good_seat(fleet[2], new)), "a new link is not good at another server")
+    right(not is_good_seat(fleet[2], old), "an old link is good at another server")
+
+
+def is_good_seat(server, secret):
+    """Whether who says this secret has a seat."""
+    link = Socket(server.port, "/play/live", timeout=30)
+    link.send("hello " + secret)
+    try:
+        return link.message().get("hello", False)
+    except (Closed, OSError):
+        return False
+    finally:
+        link.close()
 
 
 def lose_the_cluster(fleet, cluster):
