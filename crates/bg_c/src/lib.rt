@@ -28,8 +28,6 @@ mod slots;
 mod standings;
 mod statuses;
 mod terms;
-#[cfg(test)]
-mod tests;
 mod transcripts;
 mod turns;
 
