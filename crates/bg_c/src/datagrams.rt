@@ -11,7 +11,7 @@ use bg_wire::{MOST_DATAGRAM_BYTES, Packet, encode};
 
 /// A packet to send, `bg_datagram` of the header.
 #[repr(C)]
-#[derive(Clone, Copy, Debug, PartialEq, Eq)]
+#[derive(Clone, Copy)]
 pub struct Datagram {
     /// The party that it goes to, from 0 to 255.
     pub to: u32,

@@ -15,7 +15,7 @@ use std::alloc::Global;
 
 /// The verdict on a transcript, `bg_verdict` of the header.
 #[repr(C)]
-#[derive(Clone, Copy, Debug, PartialEq, Eq)]
+#[derive(Clone, Copy)]
 pub struct VerdictFields {
     /// 0 fine, 1 refused, 2 longer than 41943040 bytes.
     pub kind: u32,

@@ -15,7 +15,6 @@ use bg_turns::TurnFault;
 const NO_WHY: u32 = 0;
 
 /// The outcome of a packet that a party took, in the order of the numbers.
-#[derive(Clone, Copy, Debug, PartialEq, Eq)]
 pub enum Took {
     /// There is nothing to do, or nothing new.
     Nothing,
@@ -99,7 +98,7 @@ pub fn actor_code(actor: Actor) -> u32
 
 /// The outcome of a packet that a party took, `bg_outcome` of the header.
 #[repr(C)]
-#[derive(Clone, Copy, Debug, PartialEq, Eq)]
+#[derive(Clone, Copy)]
 pub struct Outcome {
     /// The kind of the outcome: the number of a [`Took`].
     pub kind: u32,

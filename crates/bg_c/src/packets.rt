@@ -14,7 +14,7 @@ use bg_wire::{Packet, REFEREE, decode};
 
 /// The parts of a packet, `bg_packet` of the header.
 #[repr(C)]
-#[derive(Clone, Copy, Debug, PartialEq, Eq)]
+#[derive(Clone, Copy)]
 pub struct PacketFields {
     /// The number of the match.
     pub id: u64,

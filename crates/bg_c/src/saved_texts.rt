@@ -16,7 +16,7 @@ use std::alloc::Global;
 
 /// The parts of a saved text, `bg_peeked` of the header.
 #[repr(C)]
-#[derive(Clone, Copy, Debug, PartialEq, Eq)]
+#[derive(Clone, Copy)]
 pub struct PeekedFields {
     /// The number of the match.
     pub id: u64,

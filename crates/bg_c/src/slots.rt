@@ -19,7 +19,7 @@ use std::alloc::Global;
 
 /// The saved state that slots restore, `bg_saved` of the header.
 #[repr(C)]
-#[derive(Clone, Copy, Debug, PartialEq, Eq)]
+#[derive(Clone, Copy)]
 pub struct SavedFields {
     /// 1 where something is saved; 0 where nothing is, and then the rest is 0 too.
     pub found: u32,

@@ -12,7 +12,7 @@ use bg_turns::Dice;
 
 /// Where a match stands, `bg_standing` of the header.
 #[repr(C)]
-#[derive(Clone, Copy, Debug, PartialEq, Eq)]
+#[derive(Clone, Copy)]
 pub struct StandingFields {
     /// The length of the match, in points.
     pub match_length: u32,

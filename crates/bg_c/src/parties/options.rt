@@ -18,7 +18,7 @@ use bg_match::{Entry, Level, MOST_ENTRIES, Record, Standing};
 use std::alloc::Global;
 
 /// What the player who acts may claim. Each is false where no player acts.
-#[derive(Clone, Copy, Debug, PartialEq, Eq)]
+#[derive(Clone, Copy)]
 pub struct Options {
     /// To roll.
     pub roll: bool,

@@ -27,7 +27,7 @@ use std::alloc::{AllocError, Global};
 
 /// What a party may show, `bg_shown` of the header.
 #[repr(C)]
-#[derive(Clone, Copy, Debug, PartialEq, Eq)]
+#[derive(Clone, Copy)]
 pub struct ShownFields {
     /// The number of entries that it may show: of the referee those that are saved, of another
     /// party all.
