@@ -11,7 +11,7 @@ const A_MINUTE: &str = "no word from the referee for a minute";
 
 /// The audience of the standard error, by which it depends what is told of a referee that isn't
 /// heard.
-#[derive(Clone, Copy, Debug, PartialEq, Eq)]
+#[derive(Clone, Copy, PartialEq, Eq)]
 pub enum Audience {
     /// Nobody, as the screen shows it.
     Nobody,

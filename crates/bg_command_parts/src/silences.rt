@@ -9,7 +9,7 @@ use std::{fmt, fs};
 const SOCKETS: &str = "/proc/net/udp";
 
 /// The reason why nothing may be heard of a referee.
-#[derive(Clone, Copy, Debug, PartialEq, Eq)]
+#[derive(Clone, Copy, PartialEq, Eq)]
 pub enum Silence {
     /// No process has its port, which is this one.
     NoProcess(u16),

@@ -12,7 +12,7 @@ const MOST_DEEP: u8 = 3;
 pub const NO_MATCH: &str = " has no match, nor has a folder at most three folders deep in it";
 
 /// What a search finds of a match.
-#[derive(Debug, Drop)]
+#[derive(Drop)]
 pub enum Finding {
     /// The folder of its referee.
     Match,
@@ -23,7 +23,7 @@ pub enum Finding {
 }
 
 /// A folder that was found.
-#[derive(Debug, Drop)]
+#[derive(Drop)]
 pub struct MatchBelow {
     pub path: String,
     pub finding: Finding,

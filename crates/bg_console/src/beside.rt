@@ -8,7 +8,7 @@ use std::path::Path;
 use std::{fs, io};
 
 /// A match in a folder beside another one.
-#[derive(Debug, Drop)]
+#[derive(Drop)]
 pub struct MatchBeside {
     /// The path of its match file, as short as possible.
     pub path: String,

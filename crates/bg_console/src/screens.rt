@@ -13,7 +13,7 @@ const USUAL_LINES: usize = 24;
 const DUMB: &str = "dumb";
 
 /// A terminal that is printed to.
-#[derive(Clone, Copy, Debug, PartialEq, Eq)]
+#[derive(Clone, Copy)]
 pub struct Terminal {
     pub columns: usize,
     pub lines: usize,

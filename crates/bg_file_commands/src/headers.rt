@@ -11,7 +11,7 @@ use std::{fmt, str};
 const NO_NAMES: (&[u8], &[u8]) = (b"X", b"O");
 
 /// The kind of a header. `Display` names it.
-#[derive(Clone, Copy, Debug, PartialEq, Eq)]
+#[derive(Clone, Copy)]
 pub(crate) enum Label {
     NameX,
     NameO,

@@ -8,7 +8,7 @@ use std::io::Read;
 pub(crate) const BYTE_ORDER_MARK: &[u8] = b"\xef\xbb\xbf";
 
 /// A mark that other programs write in a line, and no line of a transcript has.
-#[derive(Clone, Copy, Debug, PartialEq, Eq)]
+#[derive(Clone, Copy)]
 pub(crate) enum Mark {
     ByteOrderMark,
     WideByteOrderMark,

@@ -11,7 +11,7 @@ use bg_wire::party_of;
 use bg_world::{Event, Keeper, Outcome};
 
 /// The outcome of an action (docs/SERVING.md, "Scripts").
-#[derive(Clone, Copy, Debug, PartialEq, Eq)]
+#[derive(Clone, Copy, PartialEq, Eq)]
 pub enum Acted {
     /// The action has been carried out, now or when it came before: the entry of its number answers
     /// it.

@@ -13,7 +13,7 @@ use std::io::ErrorKind;
 pub(crate) type Watcher<'a> = WatcherProcess<PartySocket<'a, HostRuntime>>;
 
 /// Why a watcher could not begin.
-#[derive(Debug, Drop)]
+#[derive(Drop)]
 pub(crate) enum NoWatcher {
     /// No port of a watcher is free.
     NoPort,

@@ -12,7 +12,7 @@ use std::alloc::Global;
 const VERSION: &str = "0.1.0";
 
 /// The task of a command of the program.
-#[derive(Clone, Copy, Debug, PartialEq, Eq)]
+#[derive(Clone, Copy)]
 pub enum Task {
     Judge,
     Check,

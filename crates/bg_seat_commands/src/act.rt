@@ -52,7 +52,7 @@ impl Wanted {
 }
 
 /// The stage of the call.
-#[derive(Clone, Copy, PartialEq, Eq)]
+#[derive(Clone, Copy)]
 enum Stage {
     /// It waits for its turn.
     Listening,

@@ -53,7 +53,7 @@ fn key_of(address: IpAddr) -> Address {
 }
 
 /// What is known of an address.
-#[derive(Clone, Copy, Debug, PartialEq, Eq)]
+#[derive(Clone, Copy)]
 struct Known {
     address: Address,
     /// How many connections it has, and how many of them are sockets.

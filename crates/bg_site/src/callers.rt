@@ -9,7 +9,7 @@ use http::Request;
 
 /// Whose a connection is: that of the address from which its latest request came, if a proxy has
 /// said one.
-#[derive(Clone, Copy, Debug, PartialEq, Eq)]
+#[derive(Clone, Copy)]
 pub struct Caller {
     address: Option<Address>,
 }

@@ -23,7 +23,7 @@ const MOST_TAKEN: u32 = 64;
 const ROOM: usize = 2048;
 
 /// The state of a peer after a step.
-#[derive(Clone, Copy, Debug, PartialEq, Eq)]
+#[derive(Clone, Copy, PartialEq, Eq)]
 pub enum Step {
     /// There is nothing to do until its socket is ready again.
     Waits,

@@ -8,7 +8,7 @@ use bg_text::{put_number, put_text};
 use std::alloc::{AllocError, Global};
 
 /// The counters since the server began.
-#[derive(Clone, Copy, Debug, PartialEq, Eq)]
+#[derive(Clone, Copy)]
 pub(crate) struct Counts {
     /// How many connections there are.
     pub(crate) connections: u64,
@@ -54,7 +54,7 @@ impl Counts {
 }
 
 /// The number of matches, and of peers that look at them.
-#[derive(Clone, Copy, Debug, PartialEq, Eq)]
+#[derive(Clone, Copy)]
 struct Crowd {
     live: u64,
     idle: u64,

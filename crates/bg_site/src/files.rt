@@ -19,7 +19,7 @@ use http_server::Response;
 use std::alloc::{AllocError, Global};
 
 /// A text about a match.
-#[derive(Clone, Copy, Debug, PartialEq, Eq)]
+#[derive(Clone, Copy, PartialEq, Eq)]
 pub(crate) enum Asked {
     /// The state, as a player is told it, or those who watch.
     State(Option<Player>),

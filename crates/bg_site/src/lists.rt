@@ -14,7 +14,7 @@ use std::alloc::{AllocError, Global};
 const PAGE: usize = 50;
 
 /// A list of matches.
-#[derive(Clone, Copy, Debug, PartialEq, Eq)]
+#[derive(Clone, Copy, PartialEq, Eq)]
 pub(crate) enum List {
     Live,
     /// Those in which nobody has acted for a long time.
@@ -50,7 +50,7 @@ impl List {
 }
 
 /// Which matches are asked for.
-#[derive(Clone, Copy, Debug, PartialEq, Eq)]
+#[derive(Clone, Copy)]
 pub(crate) struct Wanted<'a> {
     list: List,
     patience: Patience,

@@ -9,7 +9,7 @@ use bg_system::Names;
 use bg_world::Keeper;
 
 /// What an operator may change of a match.
-#[derive(Clone, Copy, Debug, PartialEq, Eq)]
+#[derive(Clone, Copy)]
 pub struct Changed {
     pub names: Names,
     /// None where nobody may play it here.
@@ -19,7 +19,7 @@ pub struct Changed {
 }
 
 /// How often the link of each seat was made anew.
-#[derive(Clone, Copy, Debug, PartialEq, Eq)]
+#[derive(Clone, Copy)]
 pub(crate) struct SeatChanges {
     pub(crate) x: u64,
     pub(crate) o: u64,

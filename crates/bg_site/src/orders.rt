@@ -18,7 +18,7 @@ const NO_OBJECT: &str = "the body is no JSON object like {\"length\":3}\n";
 const KNOWN_KEYS: &str = " is not known: a match has \"length\", \"rules\", \"x\" and \"o\"\n";
 
 /// A match that a request orders.
-#[derive(Clone, Copy, Debug, PartialEq, Eq)]
+#[derive(Clone, Copy)]
 pub(crate) struct Ordered {
     pub(crate) terms: Terms,
     pub(crate) names: Names,
@@ -33,7 +33,7 @@ pub(crate) enum Order {
 }
 
 /// Why an object orders no match.
-#[derive(Clone, Copy, Debug, PartialEq, Eq)]
+#[derive(Clone, Copy)]
 enum OrderFault {
     Length,
     Rules,

@@ -6,7 +6,7 @@ use bg_board::Player;
 
 /// A peer that has a socket: which match it looks at, whose seat it has, and what it was handed
 /// last.
-#[derive(Clone, Copy, Debug, PartialEq, Eq)]
+#[derive(Clone, Copy)]
 pub struct Peer {
     /// None until it has said whose seat it has.
     pub(crate) place: Option<usize>,

@@ -3,7 +3,7 @@
 use bg_board::Player;
 
 /// How many peers look at a match.
-#[derive(Clone, Copy, Debug, PartialEq, Eq)]
+#[derive(Clone, Copy)]
 pub(crate) struct Presence {
     pub(crate) x: u32,
     pub(crate) o: u32,

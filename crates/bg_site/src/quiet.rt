@@ -1,7 +1,7 @@
 //! For how long nobody has acted in a match.
 
 /// The minute of the last action, as the host counts minutes, and how many had gone by then.
-#[derive(Clone, Copy, Debug, PartialEq, Eq)]
+#[derive(Clone, Copy)]
 pub(crate) struct Quiet {
     since: u64,
     before: u64,
@@ -25,7 +25,7 @@ impl Quiet {
 }
 
 /// The minute, and after how many minutes without an action a match is listed apart; 0 for never.
-#[derive(Clone, Copy, Debug, PartialEq, Eq)]
+#[derive(Clone, Copy)]
 pub(crate) struct Patience {
     pub(crate) now: u64,
     pub(crate) idle: u64,

@@ -38,7 +38,7 @@ pub struct Made<K> {
 }
 
 /// What was counted of the saves of all matches.
-#[derive(Clone, Copy, Debug, PartialEq, Eq)]
+#[derive(Clone, Copy)]
 pub struct Saves {
     /// How many were written through.
     pub done: u64,

@@ -4,7 +4,7 @@ use bg_board::Player;
 use bg_match::{Number, Phase, Record};
 
 /// What is told of a match in lists.
-#[derive(Clone, Copy, Debug, PartialEq, Eq)]
+#[derive(Clone, Copy)]
 pub(crate) struct Summary {
     pub(crate) entries: Number,
     pub(crate) score: (u16, u16),

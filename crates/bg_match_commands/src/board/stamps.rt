@@ -14,7 +14,7 @@ pub(crate) struct SavedFiles {
 }
 
 /// A stamp of a file: its number, its size, and when it was written.
-#[derive(Clone, Copy, Debug, PartialEq, Eq)]
+#[derive(Clone, Copy, PartialEq, Eq)]
 pub(crate) struct FileStamp {
     inode: u64,
     size: u64,
@@ -23,7 +23,7 @@ pub(crate) struct FileStamp {
 }
 
 /// The stamps of both saved files; `None` where there is no such file.
-#[derive(Clone, Copy, Debug, PartialEq, Eq)]
+#[derive(Clone, Copy, PartialEq, Eq)]
 pub(crate) struct Stamps {
     zero: Option<FileStamp>,
     one: Option<FileStamp>,

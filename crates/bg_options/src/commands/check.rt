@@ -38,7 +38,7 @@ Exit status: 0 if all files are legal, 2 if one is refused, 1 if one can't be re
 another is refused) or writing failed.";
 
 /// The format of the results.
-#[derive(Clone, Copy, Debug, PartialEq, Eq)]
+#[derive(Clone, Copy, PartialEq, Eq)]
 pub enum CheckFormat {
     /// Lines for people.
     Text,

@@ -25,7 +25,7 @@ Exit status: 0 if all is well, 2 if a match file or a save is damaged or of anot
 folder or file can't be read, or writing or memory failed.";
 
 /// The format of a list of matches.
-#[derive(Clone, Copy, Debug, PartialEq, Eq)]
+#[derive(Clone, Copy, PartialEq, Eq)]
 pub enum ListFormat {
     /// Lines for people, with aligned columns.
     Text,
