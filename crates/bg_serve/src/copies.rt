@@ -1,19 +1,18 @@
 //! The folder of a server that shares its matches: a copy of what the store has.
 
 use crate::changes::is_changed;
+use crate::followers::overwrite;
 use crate::marks::{hide, is_hidden, show};
 use bg_console::path_in;
 use bg_etcd::File;
 use bg_requests::is_name;
-use std::fs::{DirBuilder, OpenOptions};
-use std::io::{ErrorKind, Write};
-use std::os::unix::fs::{DirBuilderExt, OpenOptionsExt};
+use std::fs::DirBuilder;
+use std::io::ErrorKind;
+use std::os::unix::fs::DirBuilderExt;
 use std::{fs, io};
 
-/// A folder, and a file, for their owner alone.
+/// A folder for its owner alone.
 const FOLDER: u32 = 0o700;
-
-const FILE: u32 = 0o600;
 
 /// The file without which a folder is no match.
 pub(crate) const MATCH: &str = "match";
@@ -96,13 +95,7 @@ impl<'a> Copies<'a> {
         if fs::read(self.rt, path.as_str()).is_ok_and(|old| old.as_slice() == text) {
             return Ok(());
         }
-        let mut out = OpenOptions::new()
-            .write(true)
-            .create(true)
-            .truncate(true)
-            .mode(FILE)
-            .open(self.rt, path.as_str())?;
-        out.write_all(text)
+        overwrite(self.rt, path.as_str(), text)
     }
 
     /// Writes a file by its name in the store. What is no file of a match is passed over.

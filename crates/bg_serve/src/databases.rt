@@ -4,21 +4,16 @@
 //! (docs/SERVING.md, "A database").
 
 use crate::folders::FolderStore;
+use crate::followers::overwrite;
 use crate::save_counts::{SaveCounts, micros_since};
 use crate::settling::{NOT_THERE, Owner, Unusable, adopt, begin};
 use crate::turn_saves::TurnSaves;
 use bg_console::path_in;
 use bg_journal::{Change, Error, FileText, Journal};
 use mio::{Events, Poll};
-use std::fs::OpenOptions;
 use std::io;
-use std::io::Write;
-use std::os::unix::fs::OpenOptionsExt;
 use std::rc::Rc;
 use std::time::{Duration, Instant};
-
-/// A file that only its owner reads and writes.
-const OWNER_ALONE: u32 = 0o600;
 
 /// So many milliseconds are between two tries to commit.
 const BETWEEN_COMMITS: u64 = 100;
@@ -145,11 +140,5 @@ impl<'a> Database<'a> {
 /// Writes a file below a folder, without a sync.
 fn write_file(rt: &HostRuntime, folder: &str, file: &FileText) -> io::Result<()> {
     let path = path_in(rt.alloc(), folder, file.name.as_str())?;
-    let mut out = OpenOptions::new()
-        .write(true)
-        .create(true)
-        .truncate(true)
-        .mode(OWNER_ALONE)
-        .open(rt, path.as_str())?;
-    out.write_all(&file.text)
+    overwrite(rt, path.as_str(), &file.text)
 }

@@ -23,6 +23,7 @@ mod database_words;
 mod databases;
 mod exchanges;
 mod folders;
+mod followers;
 mod joining;
 mod known;
 mod limits;
