@@ -1,6 +1,7 @@
 //! What an operator changes while the server runs. Each match that was changed has an empty file of
-//! its name in a folder of its own; the server looks there once a second, removes the file, and
-//! reads the match anew.
+//! its name in a folder of its own, the mark. The server looks there once a second, gives the mark
+//! another name, and reads the match anew. Once what it has read is saved, it removes the mark: so
+//! after a kill the next server does that again.
 
 use bg_console::path_in;
 use mio::{Events, Poll};
@@ -14,6 +15,9 @@ use std::{fs, io};
 /// The name of that folder, within the folder of all matches. No match has a name with a dot.
 const CHANGES: &str = ".changes";
 
+/// What the name of a mark ends with once the change was taken in. No match has a name with a dot.
+const TAKEN: &str = ".taken";
+
 /// A folder, and a file, for their owner alone.
 const FOLDER: u32 = 0o700;
 
@@ -24,30 +28,58 @@ const MOST_LOOKS: u32 = 100;
 
 const BETWEEN_LOOKS: u64 = 50;
 
-/// Returns the names of the matches that were changed, and forgets them.
+/// Returns the names of the matches that were changed, and notes that they were taken in.
 ///
 /// # Errors
 /// Why they could not be read.
 pub(crate) fn take_changes(rt: &HostRuntime, tables: &str) -> io::Result<Vec<String>> {
     let folder = path_in(rt.alloc(), tables, CHANGES)?;
-    let mut names = Vec::new(rt.alloc());
+    let mut names: Vec<String> = Vec::new(rt.alloc());
     let entries = match fs::read_dir(rt, folder.as_str()) {
         Err(error) if error.kind() == ErrorKind::NotFound => return Ok(names),
         entries => entries?,
     };
     for entry in entries {
-        let name = String::from_str(rt.alloc(), entry?.file_name())?;
-        let path = path_in(rt.alloc(), folder.as_str(), name.as_str())?;
-        fs::remove_file(rt, path.as_str())?;
-        names.push(name)?;
+        let mark = String::from_str(rt.alloc(), entry?.file_name())?;
+        let name = take_change(rt, folder.as_str(), mark.as_str())?;
+        if names.iter().all(|other| other.as_str() != name.as_str()) {
+            names.push(name)?;
+        }
     }
     Ok(names)
 }
 
-/// Returns whether the operator has changed a match, and that was not taken in yet.
+/// Notes that the change of this mark was taken in; returns the name of its match.
+fn take_change(rt: &HostRuntime, folder: &str, mark: &str) -> io::Result<String> {
+    if let Some(name) = mark.strip_suffix(TAKEN) {
+        return Ok(String::from_str(rt.alloc(), name)?);
+    }
+    let path = path_in(rt.alloc(), folder, mark)?;
+    let taken = format!(in rt.alloc(); "{}{TAKEN}", path.as_str())?;
+    fs::rename(rt, path.as_str(), taken.as_str())?;
+    Ok(String::from_str(rt.alloc(), mark)?)
+}
+
+/// Forgets a change that was taken in, since what was read then is saved.
+///
+/// # Errors
+/// Why its mark could not be removed: it will be taken in again.
+pub(crate) fn forget_change(rt: &HostRuntime, tables: &str, name: &str) -> io::Result<()> {
+    let taken = taken_path(rt.alloc(), tables, name)?;
+    fs::remove_file(rt, taken.as_str())
+}
+
+/// Returns whether the operator has changed a match, and that was not taken in yet, or is not saved.
 pub(crate) fn is_changed(rt: &HostRuntime, tables: &str, name: &str) -> io::Result<bool> {
     let path = change_path(rt.alloc(), tables, name)?;
-    Ok(fs::metadata(rt, path.as_str()).is_ok())
+    let taken = taken_path(rt.alloc(), tables, name)?;
+    // The server gives the mark its other name: so that one is looked for last.
+    Ok(is_there(rt, path.as_str()) || is_there(rt, taken.as_str()))
+}
+
+/// Returns whether there is a file.
+fn is_there(rt: &HostRuntime, path: &str) -> bool {
+    fs::metadata(rt, path).is_ok()
 }
 
 /// Returns the path of the file that says that a match was changed.
@@ -56,8 +88,14 @@ fn change_path(alloc: Global, tables: &str, name: &str) -> Result<String, AllocE
     path_in(alloc, folder.as_str(), name)
 }
 
-/// Tells a server that a match was changed, and waits at most five seconds until it has taken that
-/// in. Returns whether it has.
+/// Returns the path of that file once the change was taken in.
+fn taken_path(alloc: Global, tables: &str, name: &str) -> Result<String, AllocError> {
+    let path = change_path(alloc, tables, name)?;
+    format!(in alloc; "{}{TAKEN}", path.as_str())
+}
+
+/// Tells a server that a match was changed, and waits at most five seconds until it has saved that.
+/// Returns whether it has.
 ///
 /// # Errors
 /// Why it could not be told.
@@ -73,14 +111,14 @@ pub(crate) fn tell_change(rt: &HostRuntime, tables: &str, name: &str) -> io::Res
         .create(true)
         .mode(FILE)
         .open(rt, path.as_str())?;
-    is_taken(rt, path.as_str())
+    is_saved(rt, tables, name)
 }
 
-/// Waits at most five seconds until a file is gone; returns whether it is.
-fn is_taken(rt: &HostRuntime, path: &str) -> io::Result<bool> {
+/// Waits at most five seconds until a change is forgotten; returns whether it is.
+fn is_saved(rt: &HostRuntime, tables: &str, name: &str) -> io::Result<bool> {
     let (mut poll, mut events) = (Poll::new(rt)?, Events::with_capacity(rt.alloc(), 1)?);
     for _ in 0..MOST_LOOKS {
-        if fs::metadata(rt, path).is_err() {
+        if !is_changed(rt, tables, name)? {
             return Ok(true);
         }
         poll.poll(&mut events, Some(Duration::from_millis(BETWEEN_LOOKS)))?;

@@ -1,7 +1,7 @@
 //! The folders of matches: each lies in the folder that is served, and has the files of a match as
 //! everywhere.
 
-use crate::changes::take_changes;
+use crate::changes::{forget_change, take_changes};
 use crate::marks::{is_hidden, quiet_minutes};
 use crate::save_counts::SaveCounts;
 use crate::seat_files::read_seats;
@@ -117,12 +117,18 @@ impl<'a> FolderStore<'a> {
         }))
     }
 
-    /// Takes the names of the matches that the operator has changed, and forgets them.
+    /// Takes the names of the matches that the operator has changed.
     ///
     /// # Errors
     /// Why they could not be read.
     pub(crate) fn take_changes(&self) -> io::Result<Vec<String>> {
         take_changes(self.rt, self.folder)
+    }
+
+    /// Forgets that the operator has changed a match, once that is saved. Where this fails, the
+    /// change is taken once more.
+    pub(crate) fn forget_change(&self, name: &str) {
+        let _ = forget_change(self.rt, self.folder, name);
     }
 
     /// Returns the match file of a folder; None where it has none that can be read.

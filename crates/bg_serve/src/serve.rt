@@ -108,7 +108,7 @@ fn go_on(
     Ok(Ending::Served)
 }
 
-/// Says what came of a turn, in which so many matches were made.
+/// Ends a turn, in which so many matches were made, and all of which is saved: says what came of it.
 pub(crate) fn tell_turn(
     rt: &HostRuntime,
     server: &mut Server<'_>,
@@ -116,6 +116,7 @@ pub(crate) fn tell_turn(
     folder: &str,
     failures: &Failures,
 ) {
+    server.forget_changes();
     tell_counts(rt, made, server.ended(), server.changed());
     tell_requests(rt, server);
     say_failures(rt, failures, folder);

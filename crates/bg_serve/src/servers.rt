@@ -39,6 +39,8 @@ pub struct Server<'a> {
     pub(crate) quota: Quota,
     /// How many changes of the operator were taken in, and not told yet.
     changed: u64,
+    /// The matches of which changes were taken in that may not be saved yet.
+    taken: Vec<String>,
     /// How many matches were told to have ended.
     ended: u64,
     /// How many matches were made until the last turn.
@@ -103,6 +105,7 @@ impl<'a> Server<'a> {
             heard: Vec::new(rt.alloc()),
             quota: Quota::new(MOST_MADE),
             changed: 0,
+            taken: Vec::new(rt.alloc()),
             ended: 0,
             made: 0,
             start,
@@ -153,6 +156,15 @@ impl<'a> Server<'a> {
             let _ = self.take_change(name.as_str());
             self.changed = self.changed.saturating_add(1);
         }
+        self.taken = names;
+    }
+
+    /// Forgets what the operator has changed, since what was taken in of it is saved.
+    pub(crate) fn forget_changes(&mut self) {
+        for name in self.taken.iter() {
+            self.site.store().forget_change(name.as_str());
+        }
+        self.taken.clear();
     }
 
     /// Takes in what the operator has changed of a match: it may be new, or gone. What a database

@@ -59,6 +59,7 @@ pub(crate) fn run_shared<'a>(
     // What the operator has changed while no server looked is put before anybody is served.
     server.take_changes();
     shared.commit(&mut server)?;
+    server.forget_changes();
     tell_begin(rt, &server);
     go_on(&mut shared, &mut server, options.folder, failures)
 }

@@ -12,7 +12,9 @@ impl<'a> Server<'a> {
     /// Why the sockets can't be waited for, or there is no memory.
     pub fn turn(&mut self) -> io::Result<u64> {
         let now = self.hear()?;
-        self.tell(now)
+        let made = self.tell(now)?;
+        self.forget_changes();
+        Ok(made)
     }
 
     /// Waits until something is to be done, and does it, but tells nobody. Returns the second.
