@@ -49,7 +49,9 @@ fn reason_of(trouble: &Trouble) -> &str {
             "it is older than what was read of it: end all servers, and then start them again"
         }
         Trouble::Folder(_) => "the folder can't be read or written",
-        Trouble::Store(Fault::Away(ErrorKind::WouldBlock)) => "no member answers in time",
+        Trouble::Store(Fault::Away(ErrorKind::WouldBlock)) | Trouble::NotYet => {
+            "no member answers in time"
+        }
         Trouble::Store(Fault::Away(_)) => "no member can be reached",
         Trouble::Store(Fault::Refused(_, reason)) => reason.as_str(),
         Trouble::Store(Fault::Unreadable) => "what answers there is no etcd",

@@ -4,7 +4,8 @@
 
 use crate::copies::Copies;
 use crate::known::Known;
-use crate::members::{Answer, Members};
+use crate::lines::Answer;
+use crate::members::Members;
 use crate::pending::Pending;
 use crate::save_counts::{SaveCounts, micros_since};
 use crate::troubles::Trouble;
@@ -39,12 +40,14 @@ pub(crate) struct Cluster<'a> {
     pub(crate) watch_at: usize,
     pub(crate) watched: u64,
     /// The seconds in which a watch has told something, or all was read; in which the watch was
-    /// begun or has told something; in which it was asked whether it does; and in which the files
-    /// have followed.
+    /// begun or has told something; in which something was written that it is to tell; and in which
+    /// the files have followed.
     pub(crate) told: u64,
     pub(crate) heard: u64,
     pub(crate) pulsed: u64,
     followed: u64,
+    /// Whether something is to be written that the watch is to tell.
+    pub(crate) is_pulse_due: bool,
     /// Whether changes may have been missed.
     pub(crate) is_stale: bool,
     /// Whether the store was found to be older than what was read of it.
@@ -76,6 +79,7 @@ impl<'a> Cluster<'a> {
             heard: 0,
             pulsed: 0,
             followed: 0,
+            is_pulse_due: false,
             is_stale: false,
             is_older: false,
         }
@@ -90,11 +94,15 @@ impl<'a> Cluster<'a> {
     pub(crate) fn commit(&mut self) -> Result<Vec<String>, Trouble> {
         self.check_age(self.watched)?;
         self.gather()?;
+        if self.is_pulse_due {
+            self.put_pulse()?;
+        }
         if !self.pending.is_empty() {
             let begun = Instant::now(self.rt).ok();
             let result = self.put_all();
+            let has_failed = matches!(result, Err(Trouble::Store(_)));
             self.counts
-                .note_commit(result.is_ok(), micros_since(self.rt, begun));
+                .note_commit(!has_failed, micros_since(self.rt, begun));
             result?;
         }
         let mut lost = Vec::new(self.rt.alloc());
@@ -108,9 +116,28 @@ impl<'a> Cluster<'a> {
         Ok(())
     }
 
+    /// Commits as [`Cluster::commit`] does, and waits for answers as long as they take.
+    pub(crate) fn commit_whole(&mut self) -> Result<Vec<String>, Trouble> {
+        for _ in 0..u64::MAX {
+            match self.commit() {
+                Err(Trouble::NotYet) => {}
+                result => return result,
+            }
+        }
+        Err(Trouble::NotYet)
+    }
+
     /// Asks a member; the others where it doesn't answer.
     pub(crate) fn ask(&mut self, path: &str, text: &str) -> Result<Answer, Fault> {
         self.members.ask(path, text)
+    }
+
+    /// Asks a member, and waits a while for the answer.
+    pub(crate) fn ask_awhile(&mut self, path: &str, text: &str) -> Result<Answer, Trouble> {
+        match self.members.ask_awhile(path, text)? {
+            Some(answer) => Ok(answer),
+            None => Err(Trouble::NotYet),
+        }
     }
 
     /// Returns whether the store answers, and no changes may have been missed.
@@ -166,7 +193,7 @@ impl<'a> Cluster<'a> {
             return Ok(());
         };
         let text = removal_text(alloc, removal.folder.as_str(), removal.known)?;
-        let (status, body) = self.ask("/v3/kv/txn", text.as_str())?;
+        let (status, body) = self.ask_awhile("/v3/kv/txn", text.as_str())?;
         let taken = taken_in(alloc, status, &body)?;
         self.check_age(taken.revision)?;
         if taken.is_taken || taken.files.is_empty() {
@@ -183,7 +210,7 @@ impl<'a> Cluster<'a> {
         let count = self.pending.batch();
         let some = self.pending.changes.get(..count).unwrap_or_default();
         let text = transaction_text(alloc, some)?;
-        let (status, body) = self.ask("/v3/kv/txn", text.as_str())?;
+        let (status, body) = self.ask_awhile("/v3/kv/txn", text.as_str())?;
         let taken = taken_in(alloc, status, &body)?;
         self.check_age(taken.revision)?;
         if taken.is_taken {

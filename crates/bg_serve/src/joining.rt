@@ -107,7 +107,7 @@ impl<'a> Cluster<'a> {
         for name in self.copies.names()? {
             self.add_all(name.as_str())?;
         }
-        let _ = self.commit()?;
+        let _ = self.commit_whole()?;
         let owner = self.put_owner(random_digits(rt, 16)?)?;
         Ok(write_mark(rt, folder, words, owner.as_str())?)
     }

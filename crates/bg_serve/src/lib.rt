@@ -27,6 +27,7 @@ mod followers;
 mod joining;
 mod known;
 mod limits;
+mod lines;
 mod live_clients;
 mod long_texts;
 mod making;

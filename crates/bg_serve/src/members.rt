@@ -1,13 +1,9 @@
 //! The members of an etcd cluster, of which one is asked at a time.
 
-use bg_etcd::{Exchange, Fault, revision_in};
+use crate::lines::{Answer, Line};
+use bg_etcd::{Fault, revision_in};
 use std::alloc::{AllocError, Global};
 use std::io::ErrorKind;
-use std::net::{TcpStream, ToSocketAddrs};
-use std::time::Duration;
-
-/// So many seconds a member may take to accept a connection, and to go on with an answer.
-const MOST_SECONDS: u64 = 2;
 
 /// The members of a cluster.
 #[derive(Drop)]
@@ -18,19 +14,11 @@ pub(crate) struct Members<'a> {
     /// The index of the one that is asked.
     at: usize,
     line: Option<Line>,
+    /// How many members have failed since the last answer.
+    failed: usize,
     /// Whether the last question was answered.
     pub(crate) is_answering: bool,
 }
-
-/// A connection to a member.
-#[derive(Drop)]
-struct Line {
-    stream: TcpStream,
-    exchange: Exchange,
-}
-
-/// The answer of a member: its status and its body.
-pub(crate) type Answer = (u16, Vec<u8>);
 
 impl<'a> Members<'a> {
     /// Returns the members of these addresses, of which there is one at least.
@@ -40,6 +28,7 @@ impl<'a> Members<'a> {
             hosts,
             at: 0,
             line: None,
+            failed: 0,
             is_answering: true,
         }
     }
@@ -61,13 +50,20 @@ impl<'a> Members<'a> {
         place.checked_div(self.hosts.len()).unwrap_or(0)
     }
 
-    /// Asks the next member from now on.
-    fn turn(&mut self) {
+    /// Asks the next member from now on, since this one has failed. Returns whether all have.
+    fn turn(&mut self) -> bool {
         self.line = None;
         self.at = self.at.saturating_add(1);
         if self.at >= self.hosts.len() {
             self.at = 0;
         }
+        self.failed = self.failed.saturating_add(1);
+        let have_all = self.failed >= self.hosts.len();
+        if have_all {
+            self.failed = 0;
+            self.is_answering = false;
+        }
+        have_all
     }
 
     /// Asks a member, and the others in turn where it doesn't answer, or can't do what it is asked
@@ -76,24 +72,51 @@ impl<'a> Members<'a> {
     /// # Errors
     /// Why the last of them did not. What was asked for may be done nevertheless, also later.
     pub(crate) fn ask(&mut self, path: &str, text: &str) -> Result<Answer, Fault> {
-        let mut fault = Fault::Away(ErrorKind::NotConnected);
+        for _ in 0..u64::MAX {
+            if let Some(answer) = self.ask_awhile(path, text)? {
+                return Ok(answer);
+            }
+        }
+        Err(Fault::Away(ErrorKind::TimedOut))
+    }
+
+    /// Asks as [`Members::ask`] does, but waits for one member only, and only for a while. Returns
+    /// None where no answer has come then: whoever asks the same again goes on waiting.
+    pub(crate) fn ask_awhile(&mut self, path: &str, text: &str) -> Result<Option<Answer>, Fault> {
         for _ in 0..self.hosts.len() {
-            match self.ask_one(path, text) {
+            let fault = match self.ask_one(path, text) {
+                Ok(None) => return Ok(None),
                 Ok(answer) => {
+                    self.failed = 0;
                     self.is_answering = true;
                     return Ok(answer);
                 }
-                Err(why) => fault = why,
+                Err(fault) => fault,
+            };
+            if self.turn() {
+                return Err(fault);
             }
-            self.turn();
+            if matches!(
+                fault,
+                Fault::Away(ErrorKind::WouldBlock | ErrorKind::TimedOut)
+            ) {
+                break;
+            }
         }
-        self.is_answering = false;
-        Err(fault)
+        Ok(None)
     }
 
-    /// Asks the member whose turn it is. An answer that it can't be done now is a fault.
-    fn ask_one(&mut self, path: &str, text: &str) -> Result<Answer, Fault> {
+    /// Asks the member whose turn it is, unless it was asked the same already. An answer that it
+    /// can't be done now is a fault.
+    fn ask_one(&mut self, path: &str, text: &str) -> Result<Option<Answer>, Fault> {
         let alloc = self.rt.alloc();
+        if self
+            .line
+            .as_ref()
+            .is_some_and(|line| line.is_asked_else(text))
+        {
+            self.line = None;
+        }
         if self.line.is_none() {
             self.line = Some(Line::open(self.rt, self.host_at(self.at))?);
         }
@@ -101,57 +124,16 @@ impl<'a> Members<'a> {
         let Some(line) = &mut self.line else {
             return Err(Fault::Away(ErrorKind::NotConnected));
         };
-        line.exchange.ask(host.as_str(), path, text)?;
-        let (status, body) = line.exchanged(alloc)?;
-        if !line.exchange.is_idle() {
+        let Some((status, body)) = line.ask(alloc, host.as_str(), path, text)? else {
+            return Ok(None);
+        };
+        if !line.is_idle() {
             self.line = None;
         }
         if status >= 500 {
             revision_in(alloc, status, &body)?;
         }
-        Ok((status, body))
-    }
-}
-
-impl Line {
-    /// Connects to a member.
-    fn open(rt: &HostRuntime, host: &str) -> Result<Line, Fault> {
-        let wait = Duration::from_secs(MOST_SECONDS);
-        let mut fault = Fault::Away(ErrorKind::NotFound);
-        for address in host.to_socket_addrs(rt)? {
-            match TcpStream::connect_timeout(rt, &address, wait) {
-                Ok(stream) => {
-                    stream.set_nodelay(true)?;
-                    stream.set_read_timeout(Some(wait))?;
-                    stream.set_write_timeout(Some(wait))?;
-                    let exchange = Exchange::new(rt.alloc());
-                    return Ok(Line { stream, exchange });
-                }
-                Err(error) => fault = Fault::Away(error.kind()),
-            }
-        }
-        Err(fault)
-    }
-
-    /// Sends what was asked, and waits for the answer.
-    fn exchanged(&mut self, alloc: Global) -> Result<Answer, Fault> {
-        for _ in 0..u64::MAX {
-            if !self.exchange.wants_write() {
-                break;
-            }
-            if self.exchange.write_to(&mut self.stream)? == 0 {
-                return Err(Fault::Away(ErrorKind::WriteZero));
-            }
-        }
-        for _ in 0..u64::MAX {
-            if let Some((status, body)) = self.exchange.answer() {
-                return Ok((status, body.to_vec(alloc)?));
-            }
-            if self.exchange.read_from(&mut self.stream)? == 0 {
-                break;
-            }
-        }
-        Err(Fault::Away(ErrorKind::UnexpectedEof))
+        Ok(Some((status, body)))
     }
 }
 

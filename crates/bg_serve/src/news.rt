@@ -7,9 +7,12 @@ use crate::watches::{Told, Watch};
 use bg_etcd::{Event, File, put_text, revision_in};
 use mio::Registry;
 
-/// A watch that was silent for so many seconds is asked whether it still tells, and one that was so
-/// for as many more is given up.
+/// Where no watch has told anything for more than so many seconds, something is written that it is
+/// to tell.
 const MOST_SILENT: u64 = 2;
+
+/// A watch that was silent for more than so many seconds is given up.
+const MOST_MUTE: u64 = 5;
 
 /// Where no watch tells anything for more than so many seconds, all that the store has is read.
 const MOST_UNTOLD: u64 = 10;
@@ -32,6 +35,10 @@ impl<'a> Cluster<'a> {
     /// # Errors
     /// Why the store could not be asked, or the folder not be written.
     pub(crate) fn news(&mut self, registry: &Registry, now: u64) -> Result<Vec<String>, Trouble> {
+        if now.saturating_sub(self.told.max(self.pulsed)) > MOST_SILENT {
+            self.pulsed = now;
+            self.is_pulse_due = true;
+        }
         if self.is_stale || self.is_untold(now) {
             return self.catch_up_once(now);
         }
@@ -49,17 +56,25 @@ impl<'a> Cluster<'a> {
                 self.members.is_answering |= !events.is_empty();
                 self.take_events(events)
             }
-            Ok(Told::Events(None)) => self.wait_for_watch(now),
-            Ok(Told::Ended) => {
-                self.end_watch();
-                self.is_stale = true;
+            Ok(Told::Events(None)) if now.saturating_sub(self.heard) <= MOST_MUTE => {
                 Ok(Vec::new(self.rt.alloc()))
             }
-            Err(_) => {
+            told => {
+                self.is_stale = matches!(told, Ok(Told::Ended));
                 self.end_watch();
                 Ok(Vec::new(self.rt.alloc()))
             }
         }
+    }
+
+    /// Writes something that the watch is to tell: so it is seen whether it does, and whether the
+    /// store is there.
+    pub(crate) fn put_pulse(&mut self) -> Result<(), Trouble> {
+        let text = put_text(self.rt.alloc(), PULSE, b"")?;
+        let (status, body) = self.ask_awhile("/v3/kv/put", text.as_str())?;
+        let revision = revision_in(self.rt.alloc(), status, &body)?;
+        self.is_pulse_due = false;
+        self.check_age(revision)
     }
 
     /// Reads all that the store has, once a second.
@@ -82,7 +97,6 @@ impl<'a> Cluster<'a> {
     /// member.
     fn begin_watch(&mut self, registry: &Registry, now: u64) {
         self.heard = now;
-        self.pulsed = now;
         let next = self.watched.saturating_add(1);
         let (host, round) = (
             self.members.host_at(self.watch_at),
@@ -98,24 +112,6 @@ impl<'a> Cluster<'a> {
     fn end_watch(&mut self) {
         self.watch = None;
         self.watch_at = self.watch_at.wrapping_add(1);
-    }
-
-    /// Has something written that a silent watch has to tell of, and gives up one that has not.
-    fn wait_for_watch(&mut self, now: u64) -> Result<Vec<String>, Trouble> {
-        let none = Vec::new(self.rt.alloc());
-        if now.saturating_sub(self.heard) <= MOST_SILENT {
-            return Ok(none);
-        }
-        if self.pulsed <= self.heard {
-            self.pulsed = now;
-            let text = put_text(self.rt.alloc(), PULSE, b"")?;
-            let (status, body) = self.ask("/v3/kv/put", text.as_str())?;
-            let revision = revision_in(self.rt.alloc(), status, &body)?;
-            self.check_age(revision)?;
-        } else if now.saturating_sub(self.pulsed) > MOST_SILENT {
-            self.end_watch();
-        }
-        Ok(none)
     }
 
     /// Takes in changes that a watch has told; returns the matches that they are about.

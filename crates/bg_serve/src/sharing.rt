@@ -130,11 +130,14 @@ impl<'a> Shared<'a> {
                     self.tell_well();
                     return Ok(lost);
                 }
-                Err(trouble) => self.tell_trouble(&trouble),
+                Err(Trouble::NotYet) => {}
+                Err(trouble) => {
+                    self.tell_trouble(&trouble);
+                    waited(self.rt, self.cluster.pause())?;
+                }
             }
             has_failed = true;
             server.turn_away();
-            waited(self.rt, self.cluster.pause())?;
         }
         Ok(Vec::new(self.rt.alloc()))
     }

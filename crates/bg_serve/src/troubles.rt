@@ -9,6 +9,8 @@ use std::io;
 pub(crate) enum Trouble {
     /// The store could not be asked, or has refused.
     Store(Fault),
+    /// The store has not answered yet: the same is to be asked again.
+    NotYet,
     /// The store is older than what was read of it.
     Older,
     /// The folder could not be read or written.

@@ -1,0 +1,114 @@
+//! A connection to a member of an etcd cluster: one question at a time, and its answer.
+
+use bg_etcd::{Exchange, Fault};
+use std::alloc::Global;
+use std::io::ErrorKind;
+use std::net::{TcpStream, ToSocketAddrs};
+use std::time::Duration;
+
+/// So many milliseconds a member may take to accept a connection, and one wait for an answer.
+const A_WHILE: u64 = 500;
+
+/// So many waits a member may take to go on with an answer.
+const MOST_WAITS: u32 = 4;
+
+/// The answer of a member: its status and its body.
+pub(crate) type Answer = (u16, Vec<u8>);
+
+/// A connection to a member.
+#[derive(Drop)]
+pub(crate) struct Line {
+    stream: TcpStream,
+    exchange: Exchange,
+    /// What it was asked, and has not answered yet.
+    asked: Option<String>,
+    /// How often nothing of the answer has come in a wait.
+    waits: u32,
+}
+
+impl Line {
+    /// Connects to a member.
+    pub(crate) fn open(rt: &HostRuntime, host: &str) -> Result<Line, Fault> {
+        let wait = Duration::from_millis(A_WHILE);
+        let mut fault = Fault::Away(ErrorKind::NotFound);
+        for address in host.to_socket_addrs(rt)? {
+            match TcpStream::connect_timeout(rt, &address, wait) {
+                Ok(stream) => {
+                    stream.set_nodelay(true)?;
+                    stream.set_read_timeout(Some(wait))?;
+                    stream.set_write_timeout(Some(wait))?;
+                    let exchange = Exchange::new(rt.alloc());
+                    return Ok(Line {
+                        stream,
+                        exchange,
+                        asked: None,
+                        waits: 0,
+                    });
+                }
+                Err(error) => fault = Fault::Away(error.kind()),
+            }
+        }
+        Err(fault)
+    }
+
+    /// Returns whether it waits for the answer to something else.
+    pub(crate) fn is_asked_else(&self, text: &str) -> bool {
+        self.asked
+            .as_ref()
+            .is_some_and(|asked| asked.as_str() != text)
+    }
+
+    /// Returns whether it can be asked something else.
+    pub(crate) fn is_idle(&self) -> bool {
+        self.exchange.is_idle()
+    }
+
+    /// Asks the member, which is at `host`, unless it was asked the same already. Waits a while for
+    /// the answer; returns None where it has not come.
+    pub(crate) fn ask(
+        &mut self,
+        alloc: Global,
+        host: &str,
+        path: &str,
+        text: &str,
+    ) -> Result<Option<Answer>, Fault> {
+        if self.asked.is_none() {
+            self.asked = Some(String::from_str(alloc, text)?);
+            self.exchange.ask(host, path, text)?;
+        }
+        match self.answered(alloc) {
+            Err(Fault::Away(ErrorKind::WouldBlock)) if self.waits < MOST_WAITS => {
+                self.waits = self.waits.saturating_add(1);
+                Ok(None)
+            }
+            Err(fault) => Err(fault),
+            Ok(answer) => {
+                self.asked = None;
+                self.waits = 0;
+                Ok(Some(answer))
+            }
+        }
+    }
+
+    /// Sends what was asked, and waits for the answer.
+    fn answered(&mut self, alloc: Global) -> Result<Answer, Fault> {
+        for _ in 0..u64::MAX {
+            if !self.exchange.wants_write() {
+                break;
+            }
+            if self.exchange.write_to(&mut self.stream)? == 0 {
+                return Err(Fault::Away(ErrorKind::WriteZero));
+            }
+        }
+        for _ in 0..u64::MAX {
+            if let Some((status, body)) = self.exchange.answer() {
+                return Ok((status, body.to_vec(alloc)?));
+            }
+            if self.exchange.read_from(&mut self.stream)? == 0 {
+                break;
+            }
+            self.waits = 0;
+        }
+        Err(Fault::Away(ErrorKind::UnexpectedEof))
+    }
+}
