@@ -107,20 +107,20 @@ pub(crate) fn tell_lost(rt: &HostRuntime, count: usize) {
     }
 }
 
-/// Says that the file of this name comes near the most that a store takes, or is beyond it.
-pub(crate) fn tell_long(rt: &HostRuntime, name: &str, is_refused: bool) {
+/// Says that the match of this name comes near the most that a store takes, or is beyond it.
+pub(crate) fn tell_long(rt: &HostRuntime, name: &str, is_full: bool) {
     let name = Printable(name);
-    if is_refused {
+    if is_full {
         say(
             rt,
             format_args!(
-                "{name} has more than the 450000 bytes that the store takes: its match can't go on"
+                "the match {name} has more than the 450000 bytes that the store takes: it can't go on"
             ),
         );
     } else {
         say(
             rt,
-            format_args!("{name} comes near the 450000 bytes that the store takes"),
+            format_args!("the match {name} comes near the 450000 bytes that the store takes"),
         );
     }
 }

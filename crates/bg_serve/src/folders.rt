@@ -220,4 +220,8 @@ impl<'a> Store<ServedKeeper<'a>> for FolderStore<'a> {
     fn saves(&self) -> Saves {
         self.counts.counted()
     }
+
+    fn is_full(&self, name: &str) -> bool {
+        self.turn.as_ref().is_some_and(|turn| turn.is_full(name))
+    }
 }

@@ -15,6 +15,9 @@ impl<'a> Cluster<'a> {
         files: Vec<File>,
         revision: u64,
     ) -> Result<(), Trouble> {
+        if let Some(long) = &self.saves.long {
+            long.forget(folder);
+        }
         if files.is_empty() {
             self.known.forget(folder);
             return self.remove(folder);

@@ -185,16 +185,16 @@ impl<'a> Shared<'a> {
         }
     }
 
-    /// Says which matches come near the most that the store takes.
+    /// Says which matches come near the most that the store takes, or can't go on.
     fn tell_long(&self) {
         let Some(long) = &self.cluster.saves.long else {
             return;
         };
         for _ in 0..u64::MAX {
-            let Some((name, is_refused)) = long.next_untold() else {
+            let Some((name, is_full)) = long.next_untold() else {
                 return;
             };
-            tell_long(self.rt, name.as_str(), is_refused);
+            tell_long(self.rt, name.as_str(), is_full);
         }
     }
 }

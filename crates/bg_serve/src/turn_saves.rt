@@ -16,7 +16,7 @@ use std::rc::Rc;
 pub(crate) struct TurnSaves {
     pub(crate) fresh: RefCell<Vec<Change>>,
     pub(crate) behind: RefCell<Behind>,
-    /// The texts that come near the most that a store takes, where there is one.
+    /// The matches that come near the most that a store takes, where there is one.
     pub(crate) long: Option<LongTexts>,
 }
 
@@ -65,8 +65,16 @@ impl TurnSaves {
 
     /// Notes that the files of a match are gone.
     pub(crate) fn remove(&self, alloc: Global, name: &str) -> Result<(), DeviceFault> {
+        if let Some(long) = &self.long {
+            long.forget(name);
+        }
         let name = String::from_str(alloc, name)?;
         self.add(Change::Remove(name))
+    }
+
+    /// Returns whether nothing more of a match is saved, since it is too long for the store.
+    pub(crate) fn is_full(&self, name: &str) -> bool {
+        self.long.as_ref().is_some_and(|long| long.is_full(name))
     }
 
     /// Returns the text that a file has in the database, or will have at the end of the turn, where

@@ -12,6 +12,9 @@ use bg_text::put_text;
 use bg_world::Keeper;
 use std::alloc::{AllocError, Global};
 
+/// The answer to an action in a match that is too long to be saved.
+const TOO_LONG: &str = ",\"no\":\"too long to be saved here\"";
+
 impl<K: Keeper + Drop, S: Store<K> + Drop> Site<K, S> {
     /// Appends what came of an action of a player in the match at a place. Where the rules refuse
     /// it, the reason follows.
@@ -23,12 +26,23 @@ impl<K: Keeper + Drop, S: Store<K> + Drop> Site<K, S> {
         action: &Action,
         acted: Acted,
     ) -> Result<(), AllocError> {
+        if acted == Acted::Failed && self.is_full_at(index) {
+            return put_text(out, TOO_LONG);
+        }
         put_text(out, acted_words(acted))?;
         match (acted, self.held_at(index)) {
             (Acted::Refused(ChooseFault::Illegal(fault)), Some(record)) => {
                 put_reason(self.alloc, out, record, player, action, fault)
             }
             _ => Ok(()),
+        }
+    }
+
+    /// Returns whether nothing more is saved of the match at a place.
+    fn is_full_at(&self, index: usize) -> bool {
+        match self.places.get(index) {
+            Some(place) => self.store.is_full(place.name.as_str()),
+            None => false,
         }
     }
 

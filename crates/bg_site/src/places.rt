@@ -247,6 +247,14 @@ impl<K: Keeper + Drop> Place<K> {
         }
     }
 
+    /// Returns what came of an action in a match of which nothing more is saved.
+    pub(crate) fn acted_when_full(&self, player: Player, number: Number, action: &Action) -> Acted {
+        match self.held() {
+            Some(record) if is_answered(record, player, number, action) => Acted::Done,
+            _ => Acted::Failed,
+        }
+    }
+
     /// Notes what became visible; returns whether anything did. Lets go of a match that is over.
     pub(crate) fn refresh(&mut self) -> bool
         ensures { self.new.seats ≡ self.old.seats }

@@ -136,10 +136,11 @@ impl<K: Keeper + Drop, S: Store<K> + Drop> Site<K, S> {
         has_news
     }
 
-    /// Returns whether a match has something left to do on a tick.
+    /// Returns whether a match has something left to do on a tick. One that is too long to be saved
+    /// has not.
     pub fn is_restless(&self) -> bool {
         for place in self.places.iter() {
-            if place.is_restless() {
+            if place.is_restless() && !self.store.is_full(place.name.as_str()) {
                 return true;
             }
         }
@@ -150,7 +151,7 @@ impl<K: Keeper + Drop, S: Store<K> + Drop> Site<K, S> {
     pub fn tick(&mut self) {
         let (mut news, minute) = (self.news, self.patience.now);
         for place in self.places.iter_mut() {
-            if place.tick() {
+            if !self.store.is_full(place.name.as_str()) && place.tick() {
                 news = news.saturating_add(1);
                 place.news = news;
                 place.quiet = Quiet::broken(minute);
@@ -233,6 +234,9 @@ impl<K: Keeper + Drop, S: Store<K> + Drop> Site<K, S> {
                 Some(record) => acted_before(&record, player, number, &action),
                 None => Acted::Failed,
             };
+        }
+        if self.store.is_full(place.name.as_str()) {
+            return place.acted_when_full(player, number, &action);
         }
         let acted = place.act(player, number, action);
         if place.refresh() {

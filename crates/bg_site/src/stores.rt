@@ -69,4 +69,9 @@ pub trait Store<K> {
     fn saves(&self) -> Saves {
         Saves::NONE
     }
+
+    /// Returns whether nothing more of a match is saved, since it is too long.
+    fn is_full(&self, _name: &str) -> bool {
+        false
+    }
 }

@@ -7,7 +7,7 @@ use bg_streams::History;
 use bg_wire::Slot;
 use bg_world::{DeviceFault, Keeper, Keepers, count_failed};
 use std::alloc::Global;
-use std::cell::RefCell;
+use std::cell::{Cell, RefCell};
 use std::process::Abort;
 
 /// The slots of a party.
@@ -60,6 +60,8 @@ pub(crate) struct Shelf {
     x: Slots,
     o: Slots,
     good: RefCell<u32>,
+    /// Whether it takes nothing more.
+    is_full: Cell<bool>,
 }
 
 /// A shelf that has nothing yet. It lasts as long as the process.
@@ -74,7 +76,18 @@ impl Shelf {
             x: Slots::new(alloc),
             o: Slots::new(alloc),
             good: RefCell::new(u32::MAX),
+            is_full: Cell::new(false),
         }
+    }
+
+    /// Takes nothing more from now on.
+    pub(crate) fn fill(&self) {
+        self.is_full.set(true);
+    }
+
+    /// Whether it takes nothing more.
+    pub(crate) fn is_full(&self) -> bool {
+        self.is_full.get()
     }
 
     /// After so many writes that succeed, one fails.
@@ -96,6 +109,9 @@ impl Shelf {
         let Ok(mut left) = self.good.try_borrow_mut() else {
             return false;
         };
+        if self.is_full() {
+            return false;
+        }
         if *left == 0 {
             *left = u32::MAX;
             return false;

@@ -133,6 +133,29 @@ fn a_match_goes_on_from_what_another_site_has_saved(rt: HostRuntime) {
 }
 
 #[test]
+fn a_match_that_is_too_long_to_be_saved_is_still(rt: HostRuntime) {
+    let shelf = lasting_shelf(&rt);
+    let site = lasting_site_over(&rt, shelf);
+    check_made(&rt, site);
+    shelf.fail_after(0);
+    // Whoever is on turn offers to resign, which is not saved.
+    for secret in ["of x", "of o"] {
+        let _ = answer_to(&rt, site, action(&rt, secret, "2 resign normal"));
+    }
+    assert!(rt; site.is_restless(), "a save that has failed is tried again");
+    shelf.fill();
+    assert!(rt; !site.is_restless(), "a match that is full");
+    for secret in ["of x", "of o"] {
+        let answer = answer_to(&rt, site, action(&rt, secret, "2 resign normal"));
+        assert!(rt;
+            answer.contains("{\"re\":2,\"no\":\"too long to be saved here\"}"),
+            "{answer}"
+        );
+    }
+    check_path(&rt, site, "/matches/made/state", "\"number\":1");
+}
+
+#[test]
 fn matches_without_an_action_are_listed_apart(rt: HostRuntime) {
     let site = site_with_match(&rt);
     site.set_idle(10);

@@ -55,6 +55,10 @@ impl<'a> Store<ShelfKeeper<'a>> for OneShelf<'a> {
     fn load(&self, _name: &str) -> Option<Record> {
         None
     }
+
+    fn is_full(&self, _name: &str) -> bool {
+        self.shelf.is_full()
+    }
 }
 
 /// A site without matches, which lasts as long as the process.
