@@ -34,6 +34,7 @@ mod peers;
 mod places;
 mod presences;
 mod quiet;
+mod repeats;
 mod requests;
 mod sending;
 mod sites;

@@ -9,7 +9,7 @@ use crate::answering::missing;
 use crate::files::Asked;
 use crate::lists::{Wanted, list_text};
 use crate::orders::{Order, order_of};
-use crate::requests::{bearer_of, is_json, query_part};
+use crate::requests::{bearer_of, is_json, key_of, query_part};
 use crate::sites::{MOST_MATCHES, Site};
 use crate::stores::{Made, Store};
 use bg_pages::{Kind, answer_text, refuse};
@@ -45,7 +45,8 @@ impl<K: Keeper + Drop, S: Store<K> + Drop> Site<K, S> {
     }
 
     /// Makes the match that a request asks for, and answers with the links of its seats: nobody
-    /// else is told them.
+    /// else is told them. A request with the key of an earlier one makes none, and is answered like
+    /// that.
     pub(crate) fn make(
         &mut self,
         request: &Request<Bytes>,
@@ -57,6 +58,11 @@ impl<K: Keeper + Drop, S: Store<K> + Drop> Site<K, S> {
                 StatusCode::UNSUPPORTED_MEDIA_TYPE,
                 "this takes application/json\n",
             );
+        }
+        let key = key_of(request).unwrap_or("");
+        if let Some(text) = self.repeats.answer_to(key)? {
+            response.status = StatusCode::CREATED;
+            return answer_text(response, Kind::Json, text);
         }
         let ordered = match order_of(self.alloc, request.body().as_slice())? {
             Order::Match(ordered) => ordered,
@@ -79,7 +85,7 @@ impl<K: Keeper + Drop, S: Store<K> + Drop> Site<K, S> {
         match self.store.make(ordered.terms, ordered.names) {
             Some(made) => {
                 self.addresses.make(address);
-                self.answer_made(made, response)
+                self.answer_made(made, key, response)
             }
             None => refuse(
                 response,
@@ -89,14 +95,20 @@ impl<K: Keeper + Drop, S: Store<K> + Drop> Site<K, S> {
         }
     }
 
-    /// Takes in a match that was made, and answers with its links.
-    fn answer_made(&mut self, made: Made<K>, response: &mut Response) -> Result<(), AllocError> {
+    /// Takes in a match that was made by a request of this key, and answers with its links.
+    fn answer_made(
+        &mut self,
+        made: Made<K>,
+        key: &str,
+        response: &mut Response,
+    ) -> Result<(), AllocError> {
         let Made { found, x, o } = made;
         let name = found.name.as_str();
         let text = links_text(self.alloc, name, &found.digest, x.as_str(), o.as_str())?;
         if !self.open_made(found) {
             return refuse_full(response);
         }
+        let _ = self.repeats.note(key, &text);
         response.status = StatusCode::CREATED;
         answer_text(response, Kind::Json, text)
     }

@@ -40,6 +40,11 @@ pub(crate) fn bearer_of(request: &Request<Bytes>) -> Option<&str> {
     header_of(request, "authorization")?.strip_prefix("Bearer ")
 }
 
+/// Returns the key of `idempotency-key: KEY`: a repeat of the request has the same.
+pub(crate) fn key_of(request: &Request<Bytes>) -> Option<&str> {
+    header_of(request, "idempotency-key")
+}
+
 /// Returns whether a request asks for a WebSocket, and for the version that is spoken.
 pub(crate) fn asks_for_socket(request: &Request<Bytes>) -> bool {
     let upgrade = header_of(request, "upgrade").unwrap_or("");

@@ -8,6 +8,7 @@ use crate::counts::Counts;
 use crate::peers::Peer;
 use crate::places::{Place, acted_before};
 use crate::quiet::{Patience, Quiet};
+use crate::repeats::Repeats;
 use crate::stores::{Found, Store};
 use bg_board::Player;
 use bg_hosted::Acted;
@@ -33,6 +34,8 @@ pub struct Site<K, S> {
     pub(crate) may_make: bool,
     /// What the clients of each address have.
     pub(crate) addresses: Addresses,
+    /// What requests that have made a match were answered.
+    pub(crate) repeats: Repeats,
     /// The minute, as the host counts them, and for how long a match without an action is live.
     pub(crate) patience: Patience,
     /// How much news there was.
@@ -58,6 +61,7 @@ impl<K: Keeper + Drop, S: Store<K> + Drop> Site<K, S> {
             caller: Caller::UNKNOWN,
             may_make: true,
             addresses: Addresses::none(alloc),
+            repeats: Repeats::none(alloc),
             patience: Patience { now: 0, idle: 0 },
             news: 1,
             asked: 1,

@@ -186,3 +186,31 @@ fn check_order(rt: &(impl AllocGlobal + Abort + RandomSource), row: &str) {
     let is_right = answer.contains(status) && answer.contains(words) && !words.is_empty();
     assert!(rt; is_right, "{row} came to {answer}");
 }
+
+/// Keys of one order after the other, and how many matches there are then.
+const KEYS: [(&str, usize); 5] = [
+    ("0123456789abcdef", 1),
+    ("0123456789abcdef", 1),
+    ("0123456789abcdeg", 2),
+    ("easy", 3),
+    ("easy", 4),
+];
+
+#[test]
+fn an_order_that_is_repeated_makes_no_other_match(rt: HostRuntime) {
+    let site = lasting_site(&rt);
+    for (key, matches) in KEYS {
+        let answer = answer_to(&rt, site, order_with(&rt, key));
+        let is_right = answer.contains("201 Created") && answer.contains("\"match\":\"made\"");
+        assert!(rt; is_right && site.len() == matches, "{key} came to {answer}");
+    }
+}
+
+/// A request that orders a match, and has this key.
+fn order_with<'a>(rt: &(impl AllocGlobal + Abort), key: &str) -> &'a str {
+    let head = "POST /matches HTTP/1.1\r\nhost: a\r\ncontent-type: application/json";
+    let rest = "content-length: 12\r\n\r\n{\"length\":1}";
+    let text = format!(in rt.alloc(); "{head}\r\nidempotency-key: {key}\r\n{rest}");
+    let text: &mut String = lasting(rt, text.expect(rt, "memory"));
+    text.as_str()
+}

@@ -29,6 +29,7 @@ def ask_as_scripts(server):
     folder = os.path.join(server.folder, name)
     kept = b"".join(open(os.path.join(folder, file), "rb").read() for file in os.listdir(folder))
     right(not any(secret_of(made[it]).encode() in kept for it in "xo"), "a secret is kept")
+    make_again(server)
 
 
 def greet(server, made, state):
@@ -41,6 +42,15 @@ def greet(server, made, state):
     greeting = watcher.message()
     right(greeting["dice"] == made["dice"] and greeting["match"] == name, f"a watcher is greeted by {greeting}")
     watcher.close()
+
+
+def make_again(server):
+    """A request to make a match that is sent again with its key makes no other match; where others can guess that, it does."""
+    keys = ["a" * 16, "a" * 16, "short", "short"]
+    answers = [server.ask("/matches", b'{"length":1}', {**JSON, "idempotency-key": key}) for key in keys]
+    right(all(status == 201 for status, _, _ in answers), f"matches with keys came to {[answer[0] for answer in answers]}")
+    texts = [text for _, _, text in answers]
+    right(texts[0] == texts[1] and len(set(texts)) == len(texts) - 1, "a repeated key makes another match, or another key the same")
 
 
 def act(server, name, seat):

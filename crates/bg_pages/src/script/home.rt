@@ -2,15 +2,31 @@
 
 pub(crate) const TEXT: &str = r#"
 // ---- The page of all matches.
+const MOST_TRIES = 5;
 const lists = { live: { page: 1, search: '' }, idle: { page: 1, search: '' }, finished: { page: 1, search: '' } };
+
+// Asks for a match, and asks again where no answer comes. By its key the server knows that it is
+// the same match.
+async function askForMatch(wanted) {
+  const key = Array.from(crypto.getRandomValues(new Uint8Array(16)), byte => byte.toString(16).padStart(2, '0')).join('');
+  const request = {
+    method: 'POST', headers: { 'content-type': 'application/json', 'idempotency-key': key }, body: JSON.stringify(wanted),
+  };
+  for (let tries = 1; tries < MOST_TRIES; tries++) {
+    try {
+      return await fetch('/matches', request);
+    } catch (lost) {
+      await new Promise(go => setTimeout(go, 1000));
+    }
+  }
+  return fetch('/matches', request);
+}
 
 async function makeMatch(event) {
   event.preventDefault();
   const value = id => byId(id).value;
   const wanted = { length: Number(value('length')), rules: Number(value('rules')), x: value('x').trim(), o: value('o').trim() };
-  const answer = await fetch('/matches', {
-    method: 'POST', headers: { 'content-type': 'application/json' }, body: JSON.stringify(wanted),
-  });
+  const answer = await askForMatch(wanted);
   if (!answer.ok) return fill(byId('made'), element('p', { role: 'alert' }, 'Refused: ' + await answer.text()));
   const made = await answer.json();
   const row = (words, path) => element('p', { class: 'link' }, element('span', {}, words),
