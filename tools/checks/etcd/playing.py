@@ -13,6 +13,9 @@ from serving.asking import wait_for
 # For so long a server is stopped, which is longer than any of its waits, and longer than another waits for a member.
 SECONDS_STOPPED = 8
 
+# So many matches a server makes in a minute at most, and so long a match may take beside many others.
+MOST_MADE, SECONDS_OF_A_MATCH = 45, 6
+
 
 def begin_players(fleet, one, seed):
     """The players of a match, who come to different servers."""
@@ -24,9 +27,19 @@ def begin_players(fleet, one, seed):
     return players
 
 
+def make_all(fleet, matches):
+    """So many matches, each server some: it makes 60 a minute, those of other parts of this check among them."""
+    made = []
+    for index in range(matches):
+        if index and index % (MOST_MADE * len(fleet)) == 0:
+            time.sleep(61)
+        made.append(fleet[index % len(fleet)].make(length=1 + index % 3, x=f"x{index}"))
+    return made
+
+
 def play_with_kills(fleet, cluster, matches, kills):
     """Bots play so many matches to the end, while somebody is killed or stopped so often."""
-    made = [fleet[index % len(fleet)].make(length=1 + index % 3, x=f"x{index}") for index in range(matches)]
+    made = make_all(fleet, matches)
     for one in made:
         right(fleet.all_have(one["match"], 1), f"{one['match']} is not at all servers")
     began = time.time()
@@ -35,7 +48,7 @@ def play_with_kills(fleet, cluster, matches, kills):
     for at in range(kills):
         time.sleep(random.uniform(0.2, 1))
         trouble(fleet, cluster, at)
-    right(wait_for(players, 240), f"a match did not end: {[player.fault for player in players if player.fault]}")
+    right(wait_for(players, max(240, SECONDS_OF_A_MATCH * matches)), f"a match did not end: {[player.fault for player in players if player.fault]}")
     right(all(player.over for player in players), "a match did not end")
     right(not [player.fault for player in players if player.fault], f"{[player.fault for player in players if player.fault]}")
     right(sum(player.conflicts for player in players) == 0, "an entry was told otherwise later, or not any more")

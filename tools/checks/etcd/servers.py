@@ -63,6 +63,11 @@ class Fleet:
             if server.process and server.process.poll() is None:
                 self.said.append(server.end())
 
+    def lost(self):
+        """How many matches servers that have ended found that another one had gone on with first."""
+        lines = [line for said in self.said for line in said.splitlines()]
+        return sum(int(line.rsplit(" ", 1)[1]) for line in lines if "another server went on with first: " in line)
+
     def all_have(self, name, number):
         """Whether all servers come to tell this entry of a match."""
         return comes(lambda: all(has(server, name, number) for server in self.servers))
