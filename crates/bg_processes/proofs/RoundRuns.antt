@@ -1,7 +1,6 @@
 -- What happens in a round is a run, event by event.
-use Rattle.std.proofs.Common.{◌≡◌, ℕ, zero, suc, Bool, true, false, List, [], ◌∷◌, ◌++◌, Option, Some, None}
-use Rattle.std.proofs.Common.{Result, Ok, Err, refl, subst}
-use Rattle.std.specs.Prelude.{◌==◌, ◌||◌, if◌then◌else◌, MatchOption, MatchResult, is_none}
+use Rattle.std.proofs.Common.{◌≡◌, ℕ, zero, suc, Bool, true, false, List, [], ◌∷◌, ◌++◌, Result, Ok, Err, refl, subst}
+use Rattle.std.specs.Prelude.{◌==◌, ◌||◌, if◌then◌else◌, MatchResult, is_none}
 use Rattle.std.specs.Bool.{MatchBool}
 use Rattle.bg_match.specs.declared.actions.Action.{Action}
 use Rattle.bg_wire.specs.Entries.Codes.{referee}
@@ -127,26 +126,27 @@ module _ (link_honest keeper_honest : Type 0) where
 -- ---- a seat
 
 module _ (link_honest keeper_honest : Type 0) where
-  worth_lead : (old : s.SeatMoment) (result : Result Bool Outcome) (new : s.SeatMoment)
-      → s.SavesWorth link_honest keeper_honest old result new
+  worth_lead : (old : s.SeatMoment) (tick : Bool) (result : Result Bool Outcome) (new : s.SeatMoment)
+      → s.SavesWorth link_honest keeper_honest old tick result new
       → Leads (s.SeatHappens link_honest keeper_honest) old new
-  worth_lead old result new h = go h.0 h.2 where
+  worth_lead old tick result new h = go h.0 h.2 where
     go : (wanted : Bool)
         → MatchBool wanted (Saves (s.SeatHappens link_honest keeper_honest) (party_of old.player) old result new)
         ((result ≡ Ok false) × (new ≡ old)) → Leads (s.SeatHappens link_honest keeper_honest) old new
     go true saves = saves_lead (s.SeatHappens link_honest keeper_honest) (party_of old.player) old result new saves
     go false none = ([], none.1)
 
-  kept_lead : (old : s.SeatMoment) (result : Result Bool Outcome) (new : s.SeatMoment)
-      → s.RestartsOrSaves link_honest keeper_honest old result new
+  pub kept_lead : (old : s.SeatMoment) (tick : Bool) (result : Result Bool Outcome) (new : s.SeatMoment)
+      → s.RestartsOrSaves link_honest keeper_honest old tick result new
       → Leads (s.SeatHappens link_honest keeper_honest) old new
-  kept_lead old result new h = go (is_none (s.log_of old)) h where
+  kept_lead old tick result new h = go (is_none (s.log_of old)) h where
     go : (down : Bool)
         → MatchBool down (Restarts (s.SeatHappens link_honest keeper_honest) (party_of old.player) old result new)
-        (s.SavesWorth link_honest keeper_honest old result new) → Leads (s.SeatHappens link_honest keeper_honest) old new
+        (s.SavesWorth link_honest keeper_honest old tick result new)
+        → Leads (s.SeatHappens link_honest keeper_honest) old new
     go true again =
         one_leads (s.SeatHappens link_honest keeper_honest) old new (events.Restart (party_of old.player)) again.0 again.1
-    go false saves = worth_lead old result new saves
+    go false saves = worth_lead old tick result new saves
 
   sends_lead : (tick : Bool) (old new : s.SeatMoment) → s.SendsWhere link_honest keeper_honest tick old new
       → Leads (s.SeatHappens link_honest keeper_honest) old new
@@ -166,18 +166,18 @@ module _ (link_honest keeper_honest : Type 0) where
   seat_round_runs old tick result new h =
       let H = s.SeatHappens link_honest keeper_honest in
       let takes = repeats_lead H s.take_at ends_takes most_taken old h.taken h.takes in
-      let saves = kept_lead h.taken h.saved h.kept h.saves in
+      let saves = kept_lead h.taken tick h.saved h.kept h.saves in
       both_lead H old h.kept new (both_lead H old h.taken h.kept takes saves)
       (seat_ends_lead tick h.kept h.saved
       (MatchResult result (GoesWhere (IsOverAndSaved (s.log_of new) (new.notes).saved)) (λ _. ⊥)) result new h.ends)
 
-  claimed_lead : (kept : s.SeatMoment) (claim : Option (ℕ × Action)) (chosen : Outcome) (result : Result Outcome Outcome)
+  claimed_lead : (kept : s.SeatMoment) (claimed : Bool) (chosen : Outcome) (result : Result Outcome Outcome)
       (new : s.SeatMoment)
-      → MatchOption claim ((result ≡ Ok outcomes.SaveFault) × (new ≡ kept))
-      (λ _. s.SendsWhere link_honest keeper_honest true kept new × (result ≡ Ok chosen))
+      → MatchBool claimed (s.SendsWhere link_honest keeper_honest true kept new × (result ≡ Ok chosen))
+      ((result ≡ Ok outcomes.SaveFault) × (new ≡ kept))
       → Leads (s.SeatHappens link_honest keeper_honest) kept new
-  claimed_lead kept None chosen result new h = ([], h.1)
-  claimed_lead kept (Some pair) chosen result new h = sends_lead true kept new h.0
+  claimed_lead kept true chosen result new h = sends_lead true kept new h.0
+  claimed_lead kept false chosen result new h = ([], h.1)
 
   claim_lead : (old : s.SeatMoment) (chosen : Outcome) (result : Result Outcome Outcome) (new : s.SeatMoment)
       → s.SavesClaim link_honest keeper_honest old chosen result new
@@ -187,11 +187,12 @@ module _ (link_honest keeper_honest : Type 0) where
       both_lead H old h.1 new (saves_lead H (party_of old.player) old h.0 h.1 h.2) (go h.0 h.3) where
         go : (saved : Result Bool Outcome)
             → MatchResult saved
-            (λ _. MatchOption (s.open_claim_at h.1) ((result ≡ Ok outcomes.SaveFault) × (new ≡ h.1))
-            (λ _. s.SendsWhere link_honest keeper_honest true h.1 new × (result ≡ Ok chosen)))
+            (λ _. MatchBool (s.is_claim_of chosen (s.open_claim_at h.1))
+            (s.SendsWhere link_honest keeper_honest true h.1 new × (result ≡ Ok chosen))
+            ((result ≡ Ok outcomes.SaveFault) × (new ≡ h.1)))
             (λ why. (result ≡ Err why) × (new ≡ h.1))
             → Leads (s.SeatHappens link_honest keeper_honest) h.1 new
-        go (Ok written) later = claimed_lead h.1 (s.open_claim_at h.1) chosen result new later
+        go (Ok written) later = claimed_lead h.1 (s.is_claim_of chosen (s.open_claim_at h.1)) chosen result new later
         go (Err why) later = ([], later.1)
 
   pub choice_runs : (old : s.SeatMoment) (action : Action) (result : Result Outcome Outcome) (new : s.SeatMoment)

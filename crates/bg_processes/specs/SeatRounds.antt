@@ -74,6 +74,11 @@ abbrev pub is_chosen : Outcome → Bool
 is_chosen (outcomes.Chose (Ok number)) = true
 is_chosen outcome = false
 
+-- the claim is the one that was made
+abbrev pub is_claim_of : Outcome → Option (ℕ × Action) → Bool
+is_claim_of (outcomes.Chose (Ok number)) (Some claim) = claim.0 == number
+is_claim_of outcome claim = false
+
 -- its last claim is to be saved still after an event, or was before
 abbrev pub waits_after : Bool → Event → Outcome → Bool
 waits_after waits event outcome = if keeps_all event outcome then false else if is_chosen outcome then true else waits
@@ -120,27 +125,30 @@ abbrev pub is_answered : ℕ → ℕ → Option (ℕ × Action) → Bool
 is_answered held saved None = false
 is_answered held saved (Some claim) = nat_le claim.0 held && nat_lt saved claim.0
 
--- A save is worth it: the last claim is to be saved still, or it was answered, or the match is over
--- and not all saved.
-abbrev pub WantsSave : SeatMoment → Bool → Type 0
-WantsSave at wanted =
+-- A save is worth it: the last claim is to be saved still, or the match is over and not all saved,
+-- or a tick is due and the last claim was answered. So an answer waits for the next claim, whose
+-- save has it too, but no longer than until a tick.
+abbrev pub WantsSave : SeatMoment → Bool → Bool → Type 0
+WantsSave at tick wanted =
     (over : Bool) × Tells over (IsOver (log_of at))
-    × (wanted ≡ (at.notes.claim_waits || (is_answered (held_at at) at.notes.saved (seat_claim at.node.core)
+    × (wanted ≡ (at.notes.claim_waits
+    || ((tick && is_answered (held_at at) at.notes.saved (seat_claim at.node.core))
     || (over && not (held_at at == at.notes.saved)))))
 
 module _ (link_honest keeper_honest : Type 0) where
   -- it saves, where that is worth it; Ok says whether that was written
-  abbrev pub SavesWorth : SeatMoment → Result Bool Outcome → SeatMoment → Type 0
-  SavesWorth old result new =
-      (wanted : Bool) × WantsSave old wanted
+  abbrev pub SavesWorth : SeatMoment → Bool → Result Bool Outcome → SeatMoment → Type 0
+  SavesWorth old tick result new =
+      (wanted : Bool) × WantsSave old tick wanted
       × MatchBool wanted (Saves (SeatHappens link_honest keeper_honest) (party_of old.player) old result new)
       ((result ≡ Ok false) × (new ≡ old))
 
   -- where it is down it is restarted, else it saves where that is worth it
-  abbrev pub RestartsOrSaves : SeatMoment → Result Bool Outcome → SeatMoment → Type 0
-  RestartsOrSaves old result new =
+  abbrev pub RestartsOrSaves : SeatMoment → Bool → Result Bool Outcome → SeatMoment → Type 0
+  RestartsOrSaves old tick result new =
       MatchBool (is_none (log_of old))
-      (Restarts (SeatHappens link_honest keeper_honest) (party_of old.player) old result new) (SavesWorth old result new)
+      (Restarts (SeatHappens link_honest keeper_honest) (party_of old.player) old result new)
+      (SavesWorth old tick result new)
 
   -- it sends where a tick is due
   abbrev pub SendsWhere : Bool → SeatMoment → SeatMoment → Type 0
@@ -158,7 +166,7 @@ module _ (link_honest keeper_honest : Type 0) where
     pub takes : Repeats (SeatHappens link_honest keeper_honest) take_at ends_takes most_taken old taken
     pub kept : SeatMoment
     pub saved : Result Bool Outcome
-    pub saves : RestartsOrSaves taken saved kept
+    pub saves : RestartsOrSaves taken tick saved kept
     pub ends : MatchResult saved
         (λ _. SendsWhere tick kept new
         × MatchResult result (GoesWhere (IsOverAndSaved (log_of new) new.notes.saved)) (λ _. ⊥))
@@ -167,14 +175,14 @@ module _ (link_honest keeper_honest : Type 0) where
   -- ---- a choice
 
   -- the claim is saved, and then sent; where it is lost with a save that failed, that is what the
-  -- choice came to
+  -- choice came to, and an earlier claim may be open again
   abbrev pub SavesClaim : SeatMoment → Outcome → Result Outcome Outcome → SeatMoment → Type 0
   SavesClaim old chosen result new =
       (saved : Result Bool Outcome) × (kept : SeatMoment)
       × Saves (SeatHappens link_honest keeper_honest) (party_of old.player) old saved kept
       × MatchResult saved
-      (λ _. MatchOption (open_claim_at kept) ((result ≡ Ok outcomes.SaveFault) × (new ≡ kept))
-      (λ _. SendsWhere true kept new × (result ≡ Ok chosen)))
+      (λ _. MatchBool (is_claim_of chosen (open_claim_at kept)) (SendsWhere true kept new × (result ≡ Ok chosen))
+      ((result ≡ Ok outcomes.SaveFault) × (new ≡ kept)))
       (λ why. (result ≡ Err why) × (new ≡ kept))
 
   -- the player chooses; Ok says what that came to, Err why the process ends

@@ -23,6 +23,8 @@ mod presences;
 #[cfg(test)]
 mod rules;
 #[cfg(test)]
+mod seat_saves;
+#[cfg(test)]
 mod slot_files;
 #[cfg(test)]
 mod udp;

@@ -111,6 +111,8 @@ fn act(rt: &HostRuntime, seat: &mut Seat<'_>, wanted: &Wanted) -> Result<Ending,
     let mut ticks = 0u32;
     for _ in 0..u64::MAX {
         let round = seat.next_round()?;
+        // The call may end here, so nothing waits for a tick.
+        seat.save_now()?;
         if round.foreign.is_some() {
             return Err(Ending::ActionRefused);
         }

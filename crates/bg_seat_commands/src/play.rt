@@ -127,6 +127,7 @@ impl<'a> Table<'a> {
             }
             self.sit_down()?;
             if self.obey_all(&mut lines)? || !is_open {
+                self.seat.save_now()?;
                 self.screen.say(GOES_ON)?;
                 return Ok(Ending::Served);
             }

@@ -147,6 +147,16 @@ impl<'a> Seat<'a> {
         })
     }
 
+    /// Saves at once what waits for a tick, where the process may end.
+    pub(crate) fn save_now(&mut self) -> Result<(), Ending> {
+        let saved = self.process.save_now(&mut self.reporter);
+        self.reporter.check_files()?;
+        match saved {
+            Ok(_) => Ok(()),
+            Err(outcome) => Err(self.stopped(&outcome)),
+        }
+    }
+
     /// Reports why the seat can't go on.
     fn stopped(&self, outcome: &Outcome) -> Ending {
         let saves = saves_of(self.folder, self.player, &self.table);

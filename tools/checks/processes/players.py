@@ -74,9 +74,10 @@ def check_first_seen(referee, play, entries, folder):
     right("\nopening\n" not in play.screen, f"who comes sees another board first than the present one: {play.screen}")
     play.type("24/13\n")
     right(comes(lambda: os.path.exists(f"{folder}/party-1.1")), "no choice was saved")
-    # The answer to the claim is saved, and what O does afterwards is not.
+    # The answer to the claim is saved with a tick, and what O does afterwards is not.
     referee.tell(1, entries[1])
     right(play.sees("X move 24-18 18-13\nit is O's turn\n"), f"X's own turn is not shown: {play.screen[-200:]}")
+    right(comes(lambda: os.path.exists(f"{folder}/party-1.0")), "the answer was not saved")
     for entry in entries[2:]:
         referee.tell(1, entry)
     right(play.sees("your turn, X: roll"), f"X is not to roll: {play.screen[-200:]}")

@@ -17,7 +17,7 @@ mod saving;
 use crate::processes::rounds::{
     Going, MOST_TAKEN, count_of, ends_takes, is_over_and_saved, seat_acts,
 };
-use crate::processes::seat::notes::{SeatNotes, is_chosen};
+use crate::processes::seat::notes::{SeatNotes, is_chosen, is_claim_of};
 use bg_auto::Observer;
 use bg_board::Player;
 use bg_match::{Action, LengthFault, Number, Record, Terms};
@@ -28,9 +28,9 @@ use std::alloc::Global;
 /// "Parties in processes of their own"). A round takes what has come, saves where that is
 /// worthwhile, and sends. Between two rounds the process waits, and its player may choose.
 ///
-/// It saves each claim before it sends it. It saves once more when the claim is answered, so that
-/// the next process doesn't ask for the answer again. It saves also when the match is over, so that
-/// its files have the whole match.
+/// It saves each claim before it sends it. It saves the answer too, so that the next process doesn't
+/// ask for it again: with the player's next claim, or else in the first round in which a tick is due.
+/// It saves also when the match is over, so that its files have the whole match.
 #[derive(Drop)]
 pub struct SeatProcess<L, K> {
     player: Player,
@@ -110,7 +110,8 @@ impl<L: Link, K: Keeper> SeatProcess<L, K> {
         seat_acts(record, self.player)
     }
 
-    /// Runs one round; `tick` says whether a tick is due. The observer is told what happens.
+    /// Runs one round; `tick` says whether a tick is due. The observer is told what happens. Where no
+    /// tick is due, an answer may stay unsaved.
     ///
     /// # Errors
     /// The outcome for which the seat is down for good, or can't save.
@@ -148,7 +149,7 @@ impl<L: Link, K: Keeper> SeatProcess<L, K> {
             result (seat_moment L.Link K.Keeper self.new) }
     {
         self.take_all(observer);
-        match self.restart_or_save(observer) {
+        match self.restart_or_save(tick, observer) {
             Ok(_) => {
                 self.send(tick, observer);
                 Ok(self.going())
@@ -185,7 +186,8 @@ impl<L: Link, K: Keeper> SeatProcess<L, K> {
         if let Err(outcome) = self.save_all(observer) {
             return Err(outcome);
         }
-        if self.open_claim().is_none() {
+        // After a failed save an earlier claim may be open again.
+        if !is_claim_of(&chosen, self.open_claim()) {
             return Ok(Outcome::SaveFault);
         }
         self.send(true, observer);

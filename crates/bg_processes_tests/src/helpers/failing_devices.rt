@@ -13,7 +13,7 @@ use std::cell::Cell;
 #[derive(Drop)]
 pub(crate) struct Calls {
     /// The number of the call that fails, from 1.
-    failing: u32,
+    failing: Cell<u32>,
     /// How many there were.
     pub(crate) made: Cell<u32>,
     /// Whether the one that failed was a read.
@@ -25,18 +25,23 @@ pub(crate) struct Calls {
 impl Calls {
     pub(crate) fn new(failing: u32) -> Calls {
         Calls {
-            failing,
+            failing: Cell::new(failing),
             made: Cell::new(0),
             failed_to_read: Cell::new(false),
             failures: Failures::new(),
         }
     }
 
+    /// Lets the next call be the one that fails.
+    pub(crate) fn fail_next(&self) {
+        self.failing.set(self.made.get().wrapping_add(1));
+    }
+
     /// Whether the next call is the one that fails.
     fn next_fails(&self) -> bool {
         let number = self.made.get().wrapping_add(1);
         self.made.set(number);
-        number == self.failing
+        number == self.failing.get()
     }
 }
 

@@ -7,9 +7,9 @@ use crate::helpers::failing_devices::{Calls, Failing};
 use crate::helpers::hosts::Host;
 use crate::helpers::played_loops::SHORT;
 use crate::helpers::tables::parties::{
-    begun_referee, begun_seat, begun_watcher, referee_round, seat_round,
+    begun_referee, begun_seat, begun_watcher, referee_round, seat_does, seat_round,
 };
-use bg_auto::NoObserver;
+use bg_auto::{NoObserver, Observer};
 use bg_board::Player;
 use bg_match::{Number, Rules, Terms};
 use bg_processes::{
@@ -129,15 +129,44 @@ impl<'a, R: Host> Table<'a, R> {
         }
     }
 
-    /// A round of a seat, which plays by itself, and begins first where it does not run.
-    fn seat_turn(&mut self, player: Player) -> bool {
-        let alloc = self.rt.alloc();
+    /// A seat begins where it does not run.
+    fn begin_seat(&mut self, player: Player) {
         if self.seat(player).is_none() {
             let party = party_of(player);
             let (socket, keeper) = (self.socket(party), self.keeper(party));
-            *self.seat(player) = begun_seat(alloc, player, self.terms, socket, keeper);
+            *self.seat(player) = begun_seat(self.rt.alloc(), player, self.terms, socket, keeper);
         }
-        seat_round(alloc, player, self.seat(player))
+    }
+
+    /// A round of a seat, which plays by itself, and begins first where it does not run.
+    fn seat_turn(&mut self, player: Player) -> bool {
+        self.begin_seat(player);
+        seat_round(self.rt.alloc(), player, self.seat(player))
+    }
+
+    /// Whether a seat, which begins first where it does not run, does what a word says.
+    fn seat_step<O: Observer>(&mut self, player: Player, word: &str, observer: &mut O) -> bool {
+        self.begin_seat(player);
+        let alloc = self.rt.alloc();
+        match self.seat(player) {
+            Some(process) => seat_does(alloc, player, process, word, observer),
+            None => false,
+        }
+    }
+
+    /// Whether a party does what a word says. Where a choice is lost, the next call of a device
+    /// fails. The observer is told of O alone.
+    pub(crate) fn step<O: Observer>(&mut self, party: &str, word: &str, o: &mut O) -> bool {
+        if word == "loses" {
+            self.calls.fail_next();
+        }
+        if party == "x" {
+            self.seat_step(Player::X, word, &mut NoObserver)
+        } else if party == "o" {
+            self.seat_step(Player::O, word, o)
+        } else {
+            party == "referee" && !self.referee_turn()
+        }
     }
 
     /// A round of the watcher, who begins first where he does not run.

@@ -1,10 +1,11 @@
 //! The notes that a seat's process takes.
 ghost use Rattle.std.specs.Prelude.{◌≡◌};
-ghost use Rattle.bg_processes.specs.SeatRounds.{NotesOfSeat, is_chosen as is_claimed, waits_after as waits_then};
+ghost use Rattle.bg_processes.specs.SeatRounds.{NotesOfSeat, is_chosen as is_claimed, is_claim_of as is_made};
+ghost use Rattle.bg_processes.specs.SeatRounds.{waits_after as waits_then};
 
 use crate::processes::rounds::{keeps_all, saved_after};
 use bg_auto::Observer;
-use bg_match::Number;
+use bg_match::{Action, Number};
 use bg_world::{Event, Outcome};
 
 /// The notes that a seat's process takes of the events at its node.
@@ -39,6 +40,16 @@ pub(crate) fn is_chosen(outcome: &Outcome) -> bool
     ensures { result ≡ is_claimed outcome.now }
 {
     matches!(outcome, Outcome::Chose(Ok(_)))
+}
+
+/// Returns whether a claim is the one that was made with this outcome.
+pub(crate) fn is_claim_of(chosen: &Outcome, claim: Option<(Number, Action)>) -> bool
+    ensures { result ≡ is_made chosen.now claim }
+{
+    match (chosen, claim) {
+        (Outcome::Chose(Ok(number)), Some((claimed, _))) => claimed == *number,
+        _ => false,
+    }
 }
 
 /// Returns whether the last claim is still to be saved after an event.

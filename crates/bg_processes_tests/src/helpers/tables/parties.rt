@@ -1,6 +1,6 @@
 //! The processes of single parties, over any devices: no call here moves what these are made of.
 use super::{ID, KEY, WATCHER};
-use bg_auto::{NoObserver, auto_action};
+use bg_auto::{NoObserver, Observer, auto_action};
 use bg_board::Player;
 use bg_match::{Action, Terms};
 use bg_processes::{Going, RefereeProcess, SeatProcess, WatcherProcess};
@@ -71,6 +71,18 @@ fn action_of<L: Link, K: Keeper>(
     auto_action(alloc, process.held()?, player).ok()?
 }
 
+/// The automatic player of a seat claims what he does. What that came to; `None` where he does
+/// nothing, or the process can't go on.
+fn choice_of<L: Link, K: Keeper, O: Observer>(
+    alloc: Global,
+    process: &mut SeatProcess<L, K>,
+    player: Player,
+    observer: &mut O,
+) -> Option<Outcome> {
+    let action = action_of(alloc, process, player)?;
+    process.choose(action, observer).ok()
+}
+
 /// The automatic player of a seat claims what he does. Whether the process goes on.
 fn plays<L: Link, K: Keeper>(
     alloc: Global,
@@ -80,6 +92,28 @@ fn plays<L: Link, K: Keeper>(
     match action_of(alloc, process, player) {
         Some(action) => process.choose(action, &mut NoObserver).is_ok(),
         None => true,
+    }
+}
+
+/// Whether a seat does what a word says: a round with a tick or without, a choice that is claimed or
+/// that is lost with its save, or what comes before its end.
+pub(super) fn seat_does<L: Link, K: Keeper, O: Observer>(
+    alloc: Global,
+    player: Player,
+    process: &mut SeatProcess<L, K>,
+    word: &str,
+    observer: &mut O,
+) -> bool {
+    if word == "plays" {
+        let chosen = choice_of(alloc, process, player, observer);
+        matches!(chosen, Some(Outcome::Chose(Ok(_))))
+    } else if word == "loses" {
+        choice_of(alloc, process, player, observer) == Some(Outcome::SaveFault)
+    } else if word == "ends" {
+        process.save_now(observer).is_ok()
+    } else {
+        let tick = word == "ticks";
+        (tick || word == "listens") && process.round(tick, observer).is_ok()
     }
 }
 

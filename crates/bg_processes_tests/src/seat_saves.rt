@@ -1,0 +1,140 @@
+//! When a seat saves: each claim at once, and its answer with the next claim, or at a tick.
+use crate::helpers::failing_devices::Calls;
+use crate::helpers::folders::{new_folder, remove_folder};
+use crate::helpers::hosts::Host;
+use crate::helpers::lasting::lasting;
+use crate::helpers::tables::Table;
+use crate::helpers::words::{number, word};
+use bg_auto::Observer;
+use bg_match::{Number, Rules};
+use bg_world::{Event, Outcome};
+
+/// How often a seat has saved, and how many entries it held then.
+#[derive(Drop)]
+struct Saves {
+    made: u32,
+    entries: Number,
+}
+
+impl Observer for Saves {
+    fn happened(&mut self, _event: &Event, outcome: &Outcome, held: Option<Number>) {
+        if matches!(outcome, Outcome::Saved(_)) {
+            self.made = self.made.wrapping_add(1);
+            self.entries = held.unwrap_or_default();
+        }
+    }
+
+    fn played(&mut self, _done: u32) {}
+}
+
+/// Each row has a party and what it does, and then how often O has saved, and how many entries its
+/// last save has. O opens, and claims entries 2, 5 and 6.
+const ROWS: &str = "\
+referee ticks 0 0
+o ticks 0 0
+referee ticks 0 0
+o listens 0 0
+o plays 1 1
+referee ticks 1 1
+# The answer waits, but for no longer than until a tick.
+o listens 1 1
+o listens 1 1
+o ticks 2 2
+o ticks 2 2
+x ticks 2 2
+referee ticks 2 2
+x listens 2 2
+x plays 2 2
+referee ticks 2 2
+x listens 2 2
+x plays 2 2
+referee ticks 2 2
+# What X did is not saved by itself.
+o ticks 2 2
+o plays 3 4
+referee ticks 3 4
+# The next claim is saved with the answer.
+o listens 3 4
+o plays 4 5
+referee ticks 4 5
+o listens 4 5
+# A process that ends saves the answer first.
+o ends 5 6
+o ends 5 6
+";
+
+/// Rows end the test where a party does something else, or O has saved more or less.
+fn check_rows<R: Host>(rt: &R, table: &mut Table<'_, R>, rows: &str) {
+    let saves = lasting(
+        rt,
+        Saves {
+            made: 0,
+            entries: 0,
+        },
+    );
+    for row in rows.lines() {
+        if !row.starts_with('#') {
+            check_row(rt, table, saves, row);
+        }
+    }
+}
+
+fn check_row<R: Host>(rt: &R, table: &mut Table<'_, R>, saves: &mut Saves, row: &str) {
+    let is_done = table.step(word(rt, row, 0), word(rt, row, 1), saves);
+    let made = number(rt, word(rt, row, 2));
+    let entries = number(rt, word(rt, row, 3));
+    let is_so = is_done && saves.made == made && saves.entries == entries;
+    let (saved, last) = (saves.made, saves.entries);
+    assert!(rt; is_so, "{row}: {saved} saves, the last of {last} entries");
+}
+
+/// The rows of a match in a folder of its own.
+fn check_saves(rt: &impl Host, name: &str, rows: &str) {
+    let folder = new_folder(rt, name);
+    let calls: &Calls = lasting(rt, Calls::new(0));
+    check_rows(
+        rt,
+        lasting(rt, Table::new(rt, calls, folder, Rules::One)),
+        rows,
+    );
+    remove_folder(rt, folder);
+}
+
+#[test]
+fn answers_are_saved_with_the_next_claim_or_at_a_tick(rt: HostRuntime) {
+    check_saves(&rt, "seat-saves", ROWS);
+}
+
+/// O claims entry 5, and its answer is not saved when the save of the next claim fails. So claim 5
+/// is open again, and the choice of entry 6 is lost.
+const LOST: &str = "\
+referee ticks 0 0
+o ticks 0 0
+referee ticks 0 0
+o listens 0 0
+o plays 1 1
+referee ticks 1 1
+o ticks 2 2
+x ticks 2 2
+referee ticks 2 2
+x listens 2 2
+x plays 2 2
+referee ticks 2 2
+x listens 2 2
+x plays 2 2
+referee ticks 2 2
+o ticks 2 2
+o plays 3 4
+referee ticks 3 4
+o listens 3 4
+o loses 3 4
+o ticks 3 4
+referee ticks 3 4
+o listens 3 4
+o plays 4 5
+";
+
+#[test]
+fn a_claim_that_is_lost_with_its_save_is_not_claimed(rt: HostRuntime) {
+    check_saves(&rt, "lost-claims", LOST);
+}
