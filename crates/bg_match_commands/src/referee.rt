@@ -164,7 +164,8 @@ fn serve(
     let mut progress = progress;
     let mut told: Number = 0;
     for _ in 0..u64::MAX {
-        let (_, tick) = waited(rt, ticking.next_round(rt, waiting))?;
+        let empty_reads = process.link().empty_reads();
+        let (_, tick) = waited(rt, ticking.next_round(rt, waiting, empty_reads))?;
         match process.round(tick, reporter) {
             Ok(Going::On) => {}
             Ok(Going::Over) => return Ok(Ending::Served),

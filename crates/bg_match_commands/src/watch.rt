@@ -158,7 +158,8 @@ fn watch(
 ) -> Result<(), Ending> {
     let mut liveness = Liveness::new();
     for _ in 0..u64::MAX {
-        let (_, tick) = waited(rt, ticking.next_round(rt, waiting))?;
+        let empty_reads = process.link().empty_reads();
+        let (_, tick) = waited(rt, ticking.next_round(rt, waiting, empty_reads))?;
         let going = process.round(tick, showing);
         let word = liveness.after_round(process.link(), tick);
         let is_heard = process.link().heard() > 0;

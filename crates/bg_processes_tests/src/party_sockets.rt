@@ -233,12 +233,23 @@ fn check_waiting(rt: &impl Host) {
     check_time(rt, waiting);
     sockets.play("send 1 0 x-wants");
     // What is not taken is told again.
-    for _ in 0..2 {
-        check_ready(rt, waiting, 1000, true);
-    }
+    check_told_twice(rt, waiting, 0);
     sockets.play("take 0 x-wants");
-    check_ready(rt, waiting, 10, false);
+    check_ready(rt, waiting, 0, 10, false);
+    // So is what comes after a read that found nothing.
+    sockets.play("take 0 nothing\nsend 1 0 x-wants");
+    let empty_reads = sockets.of(0).empty_reads();
+    assert!(rt; empty_reads == 1);
+    check_told_twice(rt, waiting, empty_reads);
+    sockets.play("take 0 x-wants");
     check_ticks(rt, waiting);
+}
+
+/// Two waits in a row are told that there is something to be read.
+fn check_told_twice(rt: &impl Abort, waiting: &mut Waiting, empty_reads: u32) {
+    for _ in 0..2 {
+        check_ready(rt, waiting, empty_reads, 1000, true);
+    }
 }
 
 /// A wait for a socket, which lasts as long as the process.
@@ -250,7 +261,7 @@ fn waiting_for<'a>(rt: &impl Host, socket: RawFd) -> &'a mut Waiting {
 /// Nothing comes for as long as is waited.
 fn check_time(rt: &impl Host, waiting: &mut Waiting) {
     let begun = Instant::now(rt).expect(rt, "a clock");
-    check_ready(rt, waiting, 30, false);
+    check_ready(rt, waiting, 0, 30, false);
     let ended = Instant::now(rt).expect(rt, "a clock");
     assert!(rt; ended.duration_since(begun).as_millis() >= 25);
 }
@@ -261,14 +272,15 @@ fn check_ticks(rt: &impl Host, waiting: &mut Waiting) {
     for is_due in [true, false] {
         assert!(rt; ticking.is_due(rt).expect(rt, "a clock") == is_due);
     }
-    let ready = ticking.wait(rt, waiting).expect(rt, "a wait");
+    let ready = ticking.wait(rt, waiting, 1).expect(rt, "a wait");
     assert!(rt; !ready.socket);
     assert!(rt; ticking.is_due(rt).expect(rt, "a clock"));
 }
 
-/// Whether a socket can be read within so many milliseconds; standard input is not waited for.
-fn check_ready(rt: &impl Abort, waiting: &mut Waiting, most: u64, socket: bool) {
-    let ready = waiting.wait(Duration::from_millis(most));
+/// Whether a socket of which so many reads found nothing can be read within so many milliseconds;
+/// standard input is not waited for.
+fn check_ready(rt: &impl Abort, waiting: &mut Waiting, empty_reads: u32, most: u64, socket: bool) {
+    let ready = waiting.wait(Duration::from_millis(most), empty_reads);
     let ready = ready.expect(rt, "a wait");
     assert!(rt; ready.socket == socket && !ready.input, "after {most} ms");
 }

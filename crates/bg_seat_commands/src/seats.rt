@@ -126,7 +126,10 @@ impl<'a> Seat<'a> {
     /// Waits, and runs the next round. Reports an entry in the player's name that the seat never
     /// claimed.
     pub(crate) fn next_round(&mut self) -> Result<Round, Ending> {
-        let next = self.ticking.next_round(self.rt, &mut self.waiting);
+        let empty_reads = self.process.link().empty_reads();
+        let next = self
+            .ticking
+            .next_round(self.rt, &mut self.waiting, empty_reads);
         let (ready, tick) = waited(self.rt, next)?;
         let claim = self.process.open_claim();
         let played = self.process.round(tick, &mut self.reporter);

@@ -40,6 +40,7 @@ impl Ticking {
     }
 
     /// Waits for the next round. Returns what can be read then, and whether a tick is due in it.
+    /// `empty_reads` is as of [`Waiting::wait`].
     ///
     /// # Errors
     /// The system's error where it doesn't wait, or doesn't tell the time.
@@ -47,18 +48,25 @@ impl Ticking {
         &mut self,
         rt: &impl Clock,
         waiting: &mut Waiting,
+        empty_reads: u32,
     ) -> io::Result<(Ready, bool)> {
-        let ready = self.wait(rt, waiting)?;
+        let ready = self.wait(rt, waiting, empty_reads)?;
         let tick = self.is_due(rt)?;
         Ok((ready, tick))
     }
 
-    /// Waits until something can be read, or the next tick is due.
+    /// Waits until something can be read, or the next tick is due. `empty_reads` is as of
+    /// [`Waiting::wait`].
     ///
     /// # Errors
     /// The system's error where it doesn't wait, or doesn't tell the time.
-    pub fn wait(&self, rt: &impl Clock, waiting: &mut Waiting) -> io::Result<Ready> {
+    pub fn wait(
+        &self,
+        rt: &impl Clock,
+        waiting: &mut Waiting,
+        empty_reads: u32,
+    ) -> io::Result<Ready> {
         let now = Instant::now(rt)?;
-        waiting.wait(self.next.duration_since(now))
+        waiting.wait(self.next.duration_since(now), empty_reads)
     }
 }

@@ -35,15 +35,19 @@ enum Input {
 }
 
 /// A socket, and perhaps standard input, for which a process waits without using the processor. The
-/// poll reports what has become ready since its source was registered, so each wait registers the
-/// sources anew. Then one read after each report never blocks, and what a read leaves is reported
-/// again. Descriptor 0 keeps its mode, since a shell and other processes share it.
+/// poll reports what has become ready since its source was registered or reported, so each wait
+/// registers the sources anew. Then one read after each report never blocks, and what a read leaves
+/// is reported again. Only a socket of which a read has found nothing since the last wait stays as it
+/// is, as all that comes behind such a read is reported. Descriptor 0 keeps its mode, since a shell
+/// and other processes share it.
 #[derive(Drop)]
 pub struct Waiting {
     poll: Poll,
     events: Events,
     socket: RawFd,
     input: Input,
+    /// Number of reads that had found nothing when the last wait began.
+    empty_reads: u32,
 }
 
 fn watch(registry: &Registry, descriptor: RawFd, token: Token) -> io::Result<()> {
@@ -80,6 +84,7 @@ impl Waiting {
             events: Events::with_capacity(rt.alloc(), 4)?,
             socket,
             input,
+            empty_reads: 0,
         })
     }
 
@@ -94,12 +99,17 @@ impl Waiting {
         self.input = Input::Unused;
     }
 
-    /// Waits until something can be read, for at most this long.
+    /// Waits until something can be read, for at most this long. `empty_reads` is the number of
+    /// reads of the socket that have found nothing so far
+    /// ([`PartyEnd::empty_reads`](crate::PartyEnd::empty_reads)).
     ///
     /// # Errors
     /// The system's error where it doesn't wait; an interruption by a signal doesn't count.
-    pub fn wait(&mut self, most: Duration) -> io::Result<Ready> {
-        watch_again(self.poll.registry(), self.socket, SOCKET)?;
+    pub fn wait(&mut self, most: Duration, empty_reads: u32) -> io::Result<Ready> {
+        if empty_reads == self.empty_reads {
+            watch_again(self.poll.registry(), self.socket, SOCKET)?;
+        }
+        self.empty_reads = empty_reads;
         if self.input == Input::Watched {
             watch_again(self.poll.registry(), STANDARD_INPUT, INPUT)?;
         }

@@ -73,6 +73,12 @@ impl<'a, C: Clock> PartySocket<'a, C> {
         self.end.heard()
     }
 
+    /// Returns the number of reads that have found no datagram in the socket, for a wait. The count
+    /// wraps around after 4,294,967,295.
+    pub fn empty_reads(&self) -> u32 {
+        self.end.empty_reads()
+    }
+
     /// Returns whether something of a party was heard within the last minute.
     pub fn hears(&self, party: u8) -> bool {
         self.end.hears(party)

@@ -41,6 +41,8 @@ pub struct PartyEnd<'a, C> {
     times: HearingTimes<'a, C>,
     /// Number of datagrams that came from the referee.
     heard: u32,
+    /// Number of reads that found nothing.
+    empty_reads: u32,
     notice: LastNotice<'a, C>,
     sends: FirstFailures<'a>,
     takes: FirstFailures<'a>,
@@ -70,6 +72,7 @@ impl<'a, C: Clock> PartyEnd<'a, C> {
             keys,
             times: HearingTimes::new(clock),
             heard: 0,
+            empty_reads: 0,
             notice: LastNotice::new(clock),
             sends: FirstFailures::new(failures),
             takes: FirstFailures::new(failures),
@@ -92,6 +95,12 @@ impl<'a, C: Clock> PartyEnd<'a, C> {
     /// 4,294,967,295.
     pub fn heard(&self) -> u32 {
         self.heard
+    }
+
+    /// Returns the number of reads that have found no datagram in the socket. The count wraps around
+    /// after 4,294,967,295.
+    pub fn empty_reads(&self) -> u32 {
+        self.empty_reads
     }
 
     /// Returns whether something of a party was heard within the last minute.
@@ -181,7 +190,10 @@ impl<'a, C: Clock> PartyEnd<'a, C> {
                         return Ok(Some(packet));
                     }
                 }
-                Err(error) if error.kind() == ErrorKind::WouldBlock => return Ok(None),
+                Err(error) if error.kind() == ErrorKind::WouldBlock => {
+                    self.empty_reads = self.empty_reads.wrapping_add(1);
+                    return Ok(None);
+                }
                 Err(error) => return Err(error),
             }
         }
