@@ -45,11 +45,11 @@ class Served:
     def url(self, path):
         return f"http://127.0.0.1:{self.port}{path}"
 
-    def ask(self, path, body=None, headers=None, method=None):
+    def ask(self, path, body=None, headers=None, method=None, seconds=MOST_SECONDS):
         """The status of an answer, its headers and its bytes."""
         request = urllib.request.Request(self.url(path), data=body, headers=headers or {}, method=method)
         try:
-            with urllib.request.urlopen(request, timeout=MOST_SECONDS) as answer:
+            with urllib.request.urlopen(request, timeout=seconds) as answer:
                 return answer.status, answer.headers, answer.read()
         except urllib.error.HTTPError as error:
             return error.code, error.headers, error.read()

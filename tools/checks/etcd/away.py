@@ -7,27 +7,34 @@ from etcd.seen import is_good_seat
 from parties import comes
 from serving.operators import manage
 
-# So long an answer may take while members hang, on a machine that nobody else uses; so often it is asked, and tried again.
-MOST_ANSWER, OFTEN, TRIES = 1.5, 12, 3
+# An answer takes less than so many seconds while members hang: a server that waits for each member takes more. So often it
+# is asked, and tried again.
+MOST_ANSWER, OFTEN, TRIES = 4, 12, 3
+# A proxy that asks how a server is waits so many seconds for the answer.
+PATIENCE = 5
+WELL = (200, b"ok\n")
 NOT_NOW = (503, b"nothing can be saved at the moment: try again later\n")
 
 
 def health(server):
-    """What a server says of itself."""
-    status, _, text = server.ask("/health")
+    """What a server says of itself, or None: whoever asks in the very turn in which it finds its cluster away waits."""
+    try:
+        status, _, text = server.ask("/health", seconds=PATIENCE)
+    except OSError:
+        return None
     return status, text
 
 
 def lose_while_idle(fleet, cluster):
     """A server that has nothing to save says that its cluster is away, where members are gone, and where they hang."""
-    right(comes(lambda: health(fleet[0]) == (200, b"ok\n")), "a server is not well at first")
+    right(comes(lambda: health(fleet[0]) == WELL), "a server is not well at first")
     for at in range(1, cluster.count):
         cluster.kill(at)
     right(comes(lambda: health(fleet[0]) == NOT_NOW, 60), f"an idle server without a cluster says {health(fleet[0])}")
     for at in range(1, cluster.count):
         cluster.begin_member(at)
     cluster.wait()
-    right(comes(lambda: health(fleet[0])[0] == 200), "an idle server is not well when the cluster is back")
+    right(comes(lambda: health(fleet[0]) == WELL), "an idle server is not well when the cluster is back")
     for at in range(cluster.count):
         cluster.send(at, signal.SIGSTOP)
     right(comes(lambda: health(fleet[0]) == NOT_NOW, 60), f"an idle server whose members hang says {health(fleet[0])}")
@@ -36,7 +43,7 @@ def lose_while_idle(fleet, cluster):
     for at in range(cluster.count):
         cluster.send(at, signal.SIGCONT)
     cluster.wait()
-    right(comes(lambda: health(fleet[0])[0] == 200), "an idle server is not well when members go on")
+    right(comes(lambda: health(fleet[0]) == WELL), "an idle server is not well when members go on")
 
 
 def longest_answer(server):
