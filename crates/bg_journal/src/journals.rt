@@ -16,11 +16,23 @@ const PUT: &str = "INSERT INTO file (name, text) VALUES (?1, ?2) \
 /// Removes the files of a folder: `0` is the character behind `/`.
 const REMOVE: &str = "DELETE FROM file WHERE name >= ?1 || '/' AND name < ?1 || '0'";
 
+/// Gives a file a text in the place of that one, if it has that one.
+const SWAP: &str = "UPDATE file SET text = ?3 WHERE name = ?1 AND text = ?2";
+
 const READ: &str = "SELECT name, text FROM file ORDER BY name";
 
 const FIND: &str = "SELECT text FROM file WHERE name = ?1";
 
 const CLEAR: &str = "DELETE FROM file";
+
+/// What a write follows: the text that a file must have before it, and the one that it has behind
+/// it.
+#[derive(Clone, Copy)]
+pub struct Swap<'a> {
+    pub name: &'a str,
+    pub before: &'a [u8],
+    pub after: &'a [u8],
+}
 
 /// A journal, open. One process has it at a time.
 #[derive(Drop)]
@@ -51,13 +63,25 @@ impl Journal {
     /// Why they could not be made durable.
     pub fn write(&mut self, changes: &[Change]) -> Result<(), Error> {
         self.run("BEGIN", &[])?;
-        for change in changes.iter() {
-            match change {
-                Change::Put(file) => self.run(PUT, params![file.name.as_str(), &file.text])?,
-                Change::Remove(folder) => self.run(REMOVE, params![folder.as_str()])?,
-            }
-        }
+        self.make(changes)?;
         self.run("COMMIT", &[])
+    }
+
+    /// Makes changes durable as [`write`](Journal::write) does, if a file has the text that it must
+    /// have before them; the file then has the other text, in the same transaction. Returns false,
+    /// and changes nothing, if it doesn't: somebody else has written to the journal since.
+    ///
+    /// # Errors
+    /// Why they could not be made durable. They may be so all the same, as the file then tells.
+    pub fn write_after(&mut self, swap: Swap<'_>, changes: &[Change]) -> Result<bool, Error> {
+        self.run("BEGIN", &[])?;
+        if !self.swap(swap)? {
+            self.run("ROLLBACK", &[])?;
+            return Ok(false);
+        }
+        self.make(changes)?;
+        self.run("COMMIT", &[])?;
+        Ok(true)
     }
 
     /// Returns the text of a file, if the journal has one.
@@ -89,6 +113,23 @@ impl Journal {
     /// Why they could not be removed.
     pub fn clear(&mut self) -> Result<(), Error> {
         self.run(CLEAR, &[])
+    }
+
+    /// Makes changes, in their order.
+    fn make(&mut self, changes: &[Change]) -> Result<(), Error> {
+        for change in changes.iter() {
+            match change {
+                Change::Put(file) => self.run(PUT, params![file.name.as_str(), &file.text])?,
+                Change::Remove(folder) => self.run(REMOVE, params![folder.as_str()])?,
+            }
+        }
+        Ok(())
+    }
+
+    /// Gives a file another text, and returns whether it had the one before it.
+    fn swap(&mut self, swap: Swap<'_>) -> Result<bool, Error> {
+        let values = params![swap.name, swap.before, swap.after];
+        Ok(self.connection.execute(SWAP, values)? == 1)
     }
 
     /// Runs a text with these parameters, which answers no rows.

@@ -14,5 +14,5 @@ mod changes;
 mod journals;
 
 pub use changes::{Change, FileText, Newest, is_below, newest_of};
-pub use journals::Journal;
+pub use journals::{Journal, Swap};
 pub use sqlite::{Error, ErrorCode};

@@ -1,6 +1,7 @@
 //! The words on databases that can't be used.
 
 use crate::cluster_words::is_copy;
+use crate::fence::Unsaved;
 use crate::settling::{CLUSTER, Unusable, read_mark, settle};
 use bg_console::{failed, failed_at, say, wrong};
 use bg_journal::{Error, ErrorCode};
@@ -112,15 +113,21 @@ pub(crate) fn is_anothers(rt: &HostRuntime, path: &str) -> Ending {
 pub(crate) fn tell_outage(
     rt: &HostRuntime,
     path: &str,
-    before: Option<Error>,
-    after: Option<Error>,
+    before: Option<Unsaved>,
+    after: Option<Unsaved>,
 ) {
     let path = Printable(path);
     match (before, after) {
-        (None, Some(error)) => say(
+        (None, Some(Unsaved::Failed(error))) => say(
             rt,
             format_args!(
                 "the saves can't be made durable in {path}: {error}; nobody is told anything until they are"
+            ),
+        ),
+        (None | Some(Unsaved::Failed(_)), Some(Unsaved::Overtaken)) => say(
+            rt,
+            format_args!(
+                "{path} is not as this server left it: another one has written to it, or an older copy is in its place; nobody is told anything until it is back"
             ),
         ),
         (Some(_), None) => say(

@@ -3,13 +3,14 @@
 //! own; they are brought up to date from the database when it is given up, or at the next start
 //! (docs/SERVING.md, "A database").
 
+use crate::fence::{Fence, Unsaved};
 use crate::folders::FolderStore;
 use crate::followers::overwrite;
 use crate::save_counts::{SaveCounts, micros_since};
-use crate::settling::{NOT_THERE, Owner, Unusable, adopt, begin};
+use crate::settling::{NOT_THERE, Unusable, begin};
 use crate::turn_saves::TurnSaves;
 use bg_console::path_in;
-use bg_journal::{Change, Error, FileText, Journal};
+use bg_journal::{Change, FileText, Journal};
 use mio::{Events, Poll};
 use std::io;
 use std::rc::Rc;
@@ -25,7 +26,7 @@ pub(crate) struct Database<'a> {
     /// The folder of all matches.
     folder: &'a str,
     path: &'a str,
-    owner: Owner,
+    fence: Fence,
     /// None after a failure: it is opened anew then.
     journal: Option<Journal>,
     saves: Rc<TurnSaves>,
@@ -46,13 +47,13 @@ impl<'a> Database<'a> {
         path: &'a str,
         store: &mut FolderStore<'a>,
     ) -> Result<Database<'a>, Unusable> {
-        let owner = begin(rt, folder, path)?;
+        let fence = begin(rt, folder, path)?;
         let (saves, counts) = store.gather(TurnSaves::new(rt.alloc()))?;
         let mut database = Database {
             rt,
             folder,
             path,
-            owner,
+            fence,
             journal: None,
             saves,
             counts,
@@ -67,7 +68,7 @@ impl<'a> Database<'a> {
     ///
     /// # Errors
     /// Why it could not be made durable. Nothing is lost: the next call tries it again.
-    pub(crate) fn commit(&mut self) -> Result<(), Error> {
+    pub(crate) fn commit(&mut self) -> Result<(), Unsaved> {
         let saves = self.saves.clone()?;
         let (Ok(mut fresh), Ok(mut behind)) = (
             saves.fresh.try_borrow_mut(),
@@ -116,11 +117,11 @@ impl<'a> Database<'a> {
     }
 
     /// Writes changes to the database, which is opened anew after a failure.
-    fn write(&mut self, changes: &[Change]) -> Result<(), Error> {
+    fn write(&mut self, changes: &[Change]) -> Result<(), Unsaved> {
         self.open()?;
         let written = match &mut self.journal {
-            Some(journal) => journal.write(changes),
-            None => Err(NOT_THERE),
+            Some(journal) => self.fence.write(self.rt.alloc(), journal, changes),
+            None => Err(Unsaved::Failed(NOT_THERE)),
         };
         if written.is_err() {
             self.journal = None;
@@ -129,9 +130,9 @@ impl<'a> Database<'a> {
     }
 
     /// Opens the database, unless it is open.
-    fn open(&mut self) -> Result<(), Error> {
+    fn open(&mut self) -> Result<(), Unsaved> {
         if self.journal.is_none() {
-            self.journal = Some(adopt(self.rt, self.path, &self.owner)?);
+            self.journal = Some(self.fence.adopt(self.rt, self.path)?);
         }
         Ok(())
     }

@@ -22,6 +22,7 @@ mod crowds;
 mod database_words;
 mod databases;
 mod exchanges;
+mod fence;
 mod folders;
 mod followers;
 mod joining;

@@ -3,6 +3,7 @@
 //! While a folder of matches has a database, a file in it, the mark, says which; so nobody who
 //! serves or manages the folder overlooks it.
 
+use crate::fence::{Fence, Unsaved};
 use crate::seat_files::random_digits;
 use bg_console::path_in;
 use bg_journal::{Change, Error, ErrorCode, FileText, Journal};
@@ -60,6 +61,15 @@ impl From<AllocError> for Unusable {
     }
 }
 
+impl From<Unsaved> for Unusable {
+    fn from(why: Unsaved) -> Unusable {
+        match why {
+            Unsaved::Failed(error) => Unusable::Database(error),
+            Unsaved::Overtaken => Unusable::Anothers,
+        }
+    }
+}
+
 /// What a mark says: whose the database is, and where it is.
 #[derive(Drop)]
 pub(crate) struct Mark {
@@ -86,21 +96,8 @@ pub(crate) fn read_mark(rt: &HostRuntime, folder: &str) -> io::Result<Option<Mar
     }
 }
 
-/// Opens the database of this owner, which is there.
-///
-/// # Errors
-/// `CannotOpen` where it is not, or another one has come into its place; or why it could not be
-/// opened.
-pub(crate) fn adopt(rt: &HostRuntime, path: &str, owner: &Owner) -> Result<Journal, Error> {
-    let mut journal = open_there(rt, path)?;
-    match journal.find(OWNER)? {
-        Some(found) if found.as_slice() == owner.as_bytes() => Ok(journal),
-        _ => Err(NOT_THERE),
-    }
-}
-
 /// Opens a database that is there.
-fn open_there(rt: &HostRuntime, path: &str) -> Result<Journal, Error> {
+pub(crate) fn open_there(rt: &HostRuntime, path: &str) -> Result<Journal, Error> {
     if fs::metadata(rt, path).is_err() {
         return Err(NOT_THERE);
     }
@@ -162,11 +159,11 @@ fn write_through(rt: &HostRuntime, path: &str, bytes: &[u8]) -> io::Result<()> {
 }
 
 /// Gives a folder a database, which is made where there is none, and notes that in the folder.
-/// Returns what says whose it is.
+/// Returns what each turn that is written to it must follow.
 ///
 /// # Errors
 /// `Anothers` where it has anything already; or why it could not be opened or written.
-pub(crate) fn begin(rt: &HostRuntime, folder: &str, path: &str) -> Result<Owner, Unusable> {
+pub(crate) fn begin(rt: &HostRuntime, folder: &str, path: &str) -> Result<Fence, Unusable> {
     let mut journal = Journal::open(rt, path)?;
     if !journal.files()?.is_empty() {
         return Err(Unusable::Anothers);
@@ -177,8 +174,12 @@ pub(crate) fn begin(rt: &HostRuntime, folder: &str, path: &str) -> Result<Owner,
     write_mark(rt, folder, whole.as_str(), owner.as_str())?;
     let text = owner.as_bytes().to_vec(rt.alloc())?;
     let name = String::from_str(rt.alloc(), OWNER)?;
-    journal.write(&[Change::Put(FileText { name, text })])?;
-    Ok(owner)
+    let fence = Fence::new(owner);
+    journal.write(&[
+        Change::Put(FileText { name, text }),
+        Change::Put(fence.file(rt.alloc())?),
+    ])?;
+    Ok(fence)
 }
 
 /// Has a database, and its log, read by their owner alone, as saved files are.

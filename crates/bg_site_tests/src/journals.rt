@@ -1,6 +1,6 @@
 //! Journals of files, over files of their own in the folder of the test.
 
-use bg_journal::{Change, Error, FileText, Journal, Newest, newest_of};
+use bg_journal::{Change, Error, FileText, Journal, Newest, Swap, newest_of};
 use std::alloc::Global;
 use std::test::Fail;
 use std::{fs, io};
@@ -26,10 +26,15 @@ fn remove_files(rt: &HostRuntime, path: &str) -> io::Result<()> {
     Ok(())
 }
 
-/// Opens a journal, writes changes, and returns its files, as `NAME=TEXT;NAME=TEXT;`.
+/// Opens a journal, writes changes, and returns its files.
 fn files_after(rt: &HostRuntime, path: &str, changes: &[Change]) -> Result<String, Error> {
     let mut journal = Journal::open(rt, path)?;
     journal.write(changes)?;
+    files_of(rt, &mut journal)
+}
+
+/// Returns the files of a journal, as `NAME=TEXT;NAME=TEXT;`.
+fn files_of(rt: &HostRuntime, journal: &mut Journal) -> Result<String, Error> {
     let mut out = String::new(rt.alloc());
     for file in journal.files()?.iter() {
         out.push_str(file.name.as_str())?;
@@ -73,6 +78,45 @@ fn the_files_of_one_folder_are_removed(rt: HostRuntime) -> Result<(), Fail> {
         files.as_str() == "a=stays;a/2=new;a0/1=stays;aa/1=stays;",
         "the others stay"
     );
+    Ok(())
+}
+
+/// Opens a journal, writes a change behind the text `before` of a file, and returns whether that was
+/// so, and which files there are.
+fn follow(
+    rt: &HostRuntime,
+    before: &str,
+    after: &str,
+    change: Change,
+) -> Result<(bool, String), Error> {
+    let mut journal = Journal::open(rt, "followed.db")?;
+    let swap = Swap {
+        name: ".turn",
+        before: before.as_bytes(),
+        after: after.as_bytes(),
+    };
+    let follows = journal.write_after(swap, &[change])?;
+    Ok((follows, files_of(rt, &mut journal)?))
+}
+
+#[test]
+fn a_write_follows_the_newest_or_changes_nothing(rt: HostRuntime) -> Result<(), Fail> {
+    remove_files(&rt, "followed.db")?;
+    let first = [put(rt.alloc(), ".turn", "mine 0")?];
+    let _ = files_after(&rt, "followed.db", &first)?;
+    let rows = [
+        ("mine 0", "mine 1", "one", true, ".turn=mine 1;a/1=one;"),
+        ("mine 0", "mine 1", "late", false, ".turn=mine 1;a/1=one;"),
+        ("mine 2", "mine 3", "early", false, ".turn=mine 1;a/1=one;"),
+        ("other 1", "other 2", "else", false, ".turn=mine 1;a/1=one;"),
+        ("mine 1", "mine 2", "two", true, ".turn=mine 2;a/1=two;"),
+    ];
+    for (before, after, text, wanted, files) in rows {
+        let change = put(rt.alloc(), "a/1", text)?;
+        let (follows, found) = follow(&rt, before, after, change)?;
+        assert!(rt; follows == wanted, "{text}, after {before}");
+        assert!(rt; found.as_str() == files, "{text}, after {before}: {found}");
+    }
     Ok(())
 }
 
