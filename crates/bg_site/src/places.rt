@@ -1,6 +1,8 @@
 //! A match of the server.
 ghost use Rattle.std.specs.Prelude.{◌≡◌, ◌↔◌, ◌⊎◌, IsSome, IsTrue, None, option_copied};
 
+mod playing;
+
 use crate::frames::Frames;
 use crate::operating::{Changed, SeatChanges};
 use crate::peers::Peer;
@@ -10,11 +12,12 @@ use crate::stores::{Found, MatchName};
 use crate::summaries::Summary;
 use bg_board::Player;
 use bg_dice::Secret;
-use bg_hosted::{Acted, HostedMatch, is_answered};
-use bg_match::{Action, Number, Record, Terms};
+use bg_hosted::HostedMatch;
+use bg_match::{Record, Terms};
 use bg_requests::{Digest, Seats};
 use bg_system::Names;
 use bg_world::Keeper;
+pub(crate) use playing::acted_before;
 use std::alloc::Global;
 
 /// A match of the server.
@@ -219,76 +222,5 @@ impl<K: Keeper + Drop> Place<K> {
         ensures { IsTrue result ↔ IsSome self.now.hosted }
     {
         self.hosted.is_some()
-    }
-
-    /// Returns whether it has something left to do on a tick.
-    pub(crate) fn is_restless(&self) -> bool {
-        match &self.hosted {
-            Some(hosted) => hosted.is_restless(),
-            None => false,
-        }
-    }
-
-    /// Does what is left to be done; returns whether anything became visible.
-    pub(crate) fn tick(&mut self) -> bool {
-        if let Some(hosted) = &mut self.hosted {
-            if hosted.is_restless() {
-                hosted.tick();
-            }
-        }
-        self.refresh()
-    }
-
-    /// Lets a player act while the match goes on.
-    pub(crate) fn act(&mut self, player: Player, number: Number, action: Action) -> Acted {
-        match &mut self.hosted {
-            Some(hosted) => hosted.act(player, number, action),
-            None => Acted::OtherEntry,
-        }
-    }
-
-    /// Returns what came of an action in a match of which nothing more is saved.
-    pub(crate) fn acted_when_full(&self, player: Player, number: Number, action: &Action) -> Acted {
-        match self.held() {
-            Some(record) if is_answered(record, player, number, action) => Acted::Done,
-            _ => Acted::Failed,
-        }
-    }
-
-    /// Notes what became visible; returns whether anything did. Lets go of a match that is over.
-    pub(crate) fn refresh(&mut self) -> bool
-        ensures { self.new.seats ≡ self.old.seats }
-    {
-        let Some(hosted) = &self.hosted else {
-            return false;
-        };
-        let is_over = hosted.is_over();
-        if hosted.told() == self.summary.entries {
-            return false;
-        }
-        if let Some(record) = hosted.shown() {
-            self.summary = Summary::of(record);
-        }
-        if is_over {
-            self.hosted = None;
-        }
-        self.version = self.version.saturating_add(1);
-        self.frames = Frames::none();
-        true
-    }
-}
-
-/// Returns what came of an action in a match that has ended with this record: it is done if its
-/// entry answers it.
-pub(crate) fn acted_before(
-    record: &Record,
-    player: Player,
-    number: Number,
-    action: &Action,
-) -> Acted {
-    if is_answered(record, player, number, action) {
-        Acted::Done
-    } else {
-        Acted::OtherEntry
     }
 }
