@@ -7,6 +7,7 @@ pub mod EntryTexts
 pub mod MoveLines
 pub mod Moves
 pub mod Numbers
+pub mod WrittenNumbers
 pub mod PairTexts
 pub mod Splits
 pub mod Starts

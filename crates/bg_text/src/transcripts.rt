@@ -5,9 +5,10 @@ ghost use Rattle.bg_text.specs.Boards.BoardText.{line_text};
 ghost use Rattle.bg_text.specs.Judge.Reading.{AddsLineOf};
 ghost use Rattle.bg_text.specs.Boards.Transcript.{IsTranscript, length_line};
 
-use crate::entries::writing::entry_text;
+use crate::entries::writing::put_entry;
 use crate::printing::put_text;
 use crate::terms_texts::put_terms;
+use arrayvec::ArrayString;
 use bg_match::{Number, Record};
 use std::alloc::{AllocError, Global};
 
@@ -43,6 +44,8 @@ fn put_line(out: &mut Vec<u8>, log: &Record, number: Number) -> Result<(), Alloc
     ensures { OnOk result (AddsLineOf log.now number out.old.items out.new.items) }
 {
     let entry = log.entry(number).unwrap();
-    put_text(out, entry_text(log.by(number), entry).as_str())?;
-    put_text(out, "\n")
+    let mut line = ArrayString::new();
+    put_entry(&mut line, log.by(number), entry);
+    line.push_str("\n");
+    put_text(out, line.as_str())
 }

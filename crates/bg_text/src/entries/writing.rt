@@ -1,5 +1,5 @@
 //! The texts of entries.
-ghost use Rattle.std.specs.Prelude.{◌≡◌, ◌+◌, ◌≤◌, ◌∷◌, ◌++◌, length, map, codes};
+ghost use Rattle.std.specs.Prelude.{◌≡◌, ◌+◌, ◌≤◌, ◌<◌, ◌∷◌, [], ◌++◌, map, codes};
 ghost use Rattle.std.specs.Fmt.{decimal};
 ghost use Rattle.arrayvec.specs.ArrayString.{array_string_len};
 ghost use Rattle.bg_text.specs.Entries.Words.{spaced};
@@ -23,13 +23,23 @@ pub fn entry_text(seat: Option<Player>, entry: &Entry) -> ArrayString<40>
     ensures { result.bytes ≡ entry_text seat entry.now }
 {
     let mut line = ArrayString::new();
+    put_entry(&mut line, seat, entry);
+    line
+}
+
+/// Puts the line of an entry into a text that is empty. There is room for a line feed behind it.
+pub(crate) fn put_entry(line: &mut ArrayString<40>, seat: Option<Player>, entry: &Entry)
+    requires empty { line.old.bytes ≡ [] }
+    requires seat { IsSeatOf seat entry.now }
+    ensures bytes { line.new.bytes ≡ entry_text seat entry.now }
+    ensures room { array_string_len line.new ≤ 39 }
+{
     match seat {
         Some(Player::X) => line.push_str("X "),
         Some(Player::O) => line.push_str("O "),
         None => {}
     }
-    put_words(&mut line, entry);
-    line
+    put_words(line, entry);
 }
 
 /// States that one line is the line of one entry: two entries with the same line are equal, and so
@@ -40,11 +50,18 @@ pub fn entry_texts_differ()
 
 fn put_words(line: &mut ArrayString<40>, entry: &Entry)
     requires { array_string_len line.old ≤ 2 }
-    ensures { line.new.bytes ≡ line.old.bytes ++ spaced (entry_words entry.now) }
+    ensures bytes { line.new.bytes ≡ line.old.bytes ++ spaced (entry_words entry.now) }
+    ensures room { array_string_len line.new ≤ 39 }
 {
     match entry {
-        Entry::Opening(x, o) => put_dice(line, "open", *x, *o),
-        Entry::Rolled(dice) => put_dice(line, "roll", dice.first, dice.second),
+        Entry::Opening(x, o) => {
+            line.push_str("open ");
+            put_dice(line, *x, *o);
+        }
+        Entry::Rolled(dice) => {
+            line.push_str("roll ");
+            put_dice(line, dice.first, dice.second);
+        }
         Entry::Doubled => line.push_str("double"),
         Entry::Taken => line.push_str("take"),
         Entry::Dropped => line.push_str("drop"),
@@ -59,20 +76,20 @@ fn put_words(line: &mut ArrayString<40>, entry: &Entry)
     }
 }
 
-fn put_dice(line: &mut ArrayString<40>, word: &str, first: Die, second: Die)
-    requires { array_string_len line.old + length word.now ≤ 6 }
-    ensures { line.new.bytes ≡ line.old.bytes ++ spaced (word.now ∷ dice_words first second) }
+fn put_dice(line: &mut ArrayString<40>, first: Die, second: Die)
+    requires { array_string_len line.old ≤ 7 }
+    ensures bytes { line.new.bytes ≡ line.old.bytes ++ spaced (dice_words first second) }
+    ensures fits { array_string_len line.new ≤ array_string_len line.old + 3 }
 {
-    line.push_str(word);
+    put_digit(line, first.pips());
     line.push_str(" ");
-    put_digits(line, first.pips());
-    line.push_str(" ");
-    put_digits(line, second.pips());
+    put_digit(line, second.pips());
 }
 
 fn put_turn(line: &mut ArrayString<40>, turn: &Turn)
     requires { array_string_len line.old ≤ 2 }
-    ensures { line.new.bytes ≡ line.old.bytes ++ spaced (codes "move" ∷ map step_text turn.now) }
+    ensures bytes { line.new.bytes ≡ line.old.bytes ++ spaced (codes "move" ∷ map step_text turn.now) }
+    ensures room { array_string_len line.new ≤ 39 }
 {
     line.push_str("move");
     let steps = turn.steps();
@@ -101,7 +118,7 @@ fn put_source(line: &mut ArrayString<40>, point: u8)
     if point == 25 {
         line.push_str("bar");
     } else {
-        put_digits(line, point);
+        put_number(line, point);
     }
 }
 
@@ -113,15 +130,32 @@ fn put_target(line: &mut ArrayString<40>, point: u8)
     if point == 0 {
         line.push_str("off");
     } else {
-        put_digits(line, point);
+        put_number(line, point);
     }
 }
 
-fn put_digits(line: &mut ArrayString<40>, number: u8)
+/// Appends a number. The points of a turn have one digit, or two.
+fn put_number(line: &mut ArrayString<40>, number: u8)
     requires { array_string_len line.old ≤ 37 }
     ensures bytes { line.new.bytes ≡ line.old.bytes ++ decimal number }
     ensures fits { array_string_len line.new ≤ array_string_len line.old + 3 }
 {
-    let mut digits = Buffer::new();
-    line.push_str(digits.format(number));
+    if number < 10 {
+        put_digit(line, number);
+    } else if number < 100 {
+        put_digit(line, number / 10);
+        put_digit(line, number % 10);
+    } else {
+        line.push_str(Buffer::new().format(number));
+    }
+}
+
+/// Appends a digit.
+fn put_digit(line: &mut ArrayString<40>, digit: u8)
+    requires room { array_string_len line.old ≤ 39 }
+    requires digit { digit < 10 }
+    ensures bytes { line.new.bytes ≡ line.old.bytes ++ (48 + digit) ∷ [] }
+    ensures fits { array_string_len line.new ≡ array_string_len line.old + 1 }
+{
+    line.push(char::from(b'0' + digit));
 }
