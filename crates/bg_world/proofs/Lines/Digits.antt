@@ -10,7 +10,7 @@ use Rattle.std.proofs.lemmas.Int.Digits.{digits_value_push}
 use Rattle.std.proofs.lemmas.List.{take_more}
 use Rattle.std.proofs.lemmas.Str.{digit_value_digit}
 use Rattle.std.proofs.lemmas.Str.Parse.{IsNumeralModel, numerals_by_value, tells_all_ascii_digits, digits_value_short}
-use Rattle.std.proofs.lemmas.Fmt.{digits_value-decimal}
+use Rattle.std.proofs.lemmas.Fmt.{decimal_digit, decimal-digits_value, digits_value-decimal, first_decimal}
 
 pub own : IsNumeralModel (λ ds. all_ascii_digits ds ≡ true) (digits_value 10)
 own = numerals_by_value (λ ds. all_ascii_digits ds ≡ true) tells_all_ascii_digits
@@ -64,3 +64,18 @@ number_is_value most value word fits is n low e =
     let same : digits_value 10 (decimal n) ≡ n = digits_value-decimal own n (omega (arith, fits, low)) in
     let v : value ≡ n = is ∙ ap (digits_value 10) e ∙ same in
     (subst (λ (k : ℕ). k ≤ most) (sym v) low, e ∙ ap decimal (sym v))
+
+-- digits are as their number is written, unless a zero stands before another one
+pub written_digits : (word : List ℕ) (number : ℕ) → all_ascii_digits word ≡ true → 1 ≤ length word → length word ≤ 10
+    → number ≡ digits_value 10 word → (get_or word 0 0 ≡ 48 → length word ≡ 1) → word ≡ decimal number
+written_digits word number d some ten is first =
+    let small : digits_value 10 word < 10 ^ 10 = digits_value_short own word 10 d ten in
+    sym (ap decimal is ∙ decimal-digits_value own word d some first (omega (arith, small)))
+
+pub no_zero_first : (word : List ℕ) (number : ℕ) → word ≡ decimal number → number < 2 ^ 64 → get_or word 0 0 ≡ 48
+    → length word ≡ 1
+no_zero_first word zero is fits z = ap length (is ∙ decimal_digit 0 (omega arith))
+no_zero_first word (suc n) is fits z =
+    let more : 48 < get_or (decimal (suc n)) 0 0 = first_decimal (suc n) (omega arith) fits in
+    let same : get_or (decimal (suc n)) 0 0 ≡ 48 = sym (ap (λ (ds : List ℕ). get_or ds 0 0) is) ∙ z in
+    absurd (omega (arith, more, same))

@@ -6,7 +6,6 @@ ghost use Rattle.bg_world.specs.Texts.EventText.{IsLongNumeral};
 ghost use Rattle.bg_world.specs.Texts.EventLines.{IsNumberUpTo};
 
 use bg_text::TextFault;
-use itoa::Buffer;
 
 /// The greatest number of digits of a number.
 const MOST_DIGITS: usize = 10;
@@ -29,12 +28,13 @@ fn value_of(word: &[u8]) -> Option<u64>
     Some(value)
 }
 
-/// Returns whether the bytes are the number as it is written.
+/// Returns whether these digits are as their number is written: no zero stands before another one.
 fn is_written(word: &[u8], number: u64) -> bool
+    requires digits { IsLongNumeral word.now }
+    requires value { number ≡ digits_value 10 word.now }
     ensures { IsTrue result ↔ (word.now ≡ decimal number) }
 {
-    let mut digits = Buffer::new();
-    digits.format(number).as_bytes() == word
+    word.len() == 1 || word[0] != b'0'
 }
 
 /// Reads the number, up to `most`, that one to ten digits write. A leading zero before another
