@@ -1,5 +1,5 @@
 //! The referee's answers to packets.
-ghost use Rattle.std.specs.Prelude.{◌≡◌, ◌≤◌, List};
+ghost use Rattle.std.specs.Prelude.{◌≡◌, ◌≤◌, [], List};
 ghost use Rattle.std.specs.List.{AllByRecursion};
 ghost use Rattle.bg_match.specs.Entry.{IsEntry};
 ghost use Rattle.bg_match.specs.Terms.{rules_of};
@@ -9,8 +9,11 @@ ghost use Rattle.bg_wire.specs.Packets.PacketText.{IsPacket};
 use crate::rulings::Ruling;
 use crate::{Referee, TakeOutcome};
 use arrayvec::ArrayVec;
-use bg_match::{EntryFault, Number};
+use bg_match::{Entry, EntryFault, Number};
 use bg_wire::{EntryList, MOST_ENTRIES_IN_PACKET, Packet};
+
+/// The room of a list of entries.
+const ENTRY_ROOM: usize = MOST_ENTRIES_IN_PACKET as usize;
 
 impl Referee {
     ghost use Rattle.bg_referee.specs.Referee.{IsShown};
@@ -40,7 +43,6 @@ impl Referee {
     }
 
     /// Returns the packet that tells the saved entries from a number on.
-    #[inline(never)]
     pub(crate) fn packet_from(&self, start: Number) -> Packet
         requires first { 1 ≤ start }
         requires last { start ≤ self.now.saved }
@@ -64,11 +66,26 @@ impl Referee {
         ensures shown { IsShown self.now start result }
         ensures in_range { AllByRecursion IsEntry result }
     {
+        let mut list = EntryList {
+            entries: ArrayVec::new(),
+        };
+        self.add_saved(start, &mut list.entries);
+        list
+    }
+
+    /// Adds the saved entries from a number on, at most eight, to none. It is kept out of its
+    /// caller, so that the list is copied into a packet as a whole, and not entry by entry.
+    #[inline(never)]
+    fn add_saved(&self, start: Number, entries: &mut ArrayVec<Entry, ENTRY_ROOM>)
+        requires first { 1 ≤ start }
+        requires last { start ≤ self.now.saved }
+        requires none { entries.old.items ≡ [] }
+        ensures shown { IsShown self.now start entries.new.items }
+        ensures in_range { AllByRecursion IsEntry entries.new.items }
+    {
         let count = (self.saved - start + 1).min(Number::from(MOST_ENTRIES_IN_PACKET));
-        let mut entries = ArrayVec::new();
         for index in 0..count {
             entries.push(self.log.entry(start + index).unwrap().copy());
         }
-        EntryList { entries }
     }
 }
