@@ -4,6 +4,8 @@ use Rattle.std.specs.Prelude.{◌≡◌, ℕ, zero, suc, ◌+◌, ◌==◌, Bool
 use Rattle.std.specs.Int.{w16, w32, w64, from_be_bytes}
 use Rattle.bg_wire.specs.declared.entries.reader.ReadFault.{ReadFault}
 use Rattle.bg_wire.specs.declared.entries.reader.ReadFault.TheVariants.{Short, Field}
+use Rattle.bg_wire.specs.declared.entries.reader.FieldFault.{FieldFault}
+use Rattle.bg_wire.specs.declared.entries.reader.FieldFault.TheVariants as field
 
 -- the bytes that are left, and the offset where they begin
 pub record Cursor : Type 0 where
@@ -19,10 +21,16 @@ abbrev pub ◌>>=◌ : {A B : Type 0} → Result A ReadFault → (A → Result B
 (Ok x) >>= f = f x
 (Err e) >>= f = Err e
 
--- what a reader returned, and where it stopped, is what reading gives
-abbrev pub Reads : {A : Type 0} → Result A ReadFault → Cursor → Read A → Type 0
+-- the fault of a field that begins there
+abbrev pub fault_at : FieldFault → ℕ → ReadFault
+fault_at field.Short at = Short
+fault_at field.OutOfRange at = Field at
+
+-- what a reader returned, and where it stopped, is what reading gives. At a fault it stands at the
+-- field
+abbrev pub Reads : {A : Type 0} → Result A FieldFault → Cursor → Read A → Type 0
 Reads (Ok x) new read = read ≡ Ok (x, new)
-Reads (Err e) new read = read ≡ Err e
+Reads (Err e) new read = read ≡ Err (fault_at e new.at)
 
 -- the number is out of its range
 abbrev pub is_outside : ℕ → ℕ → ℕ → Bool

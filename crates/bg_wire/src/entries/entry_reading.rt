@@ -8,37 +8,34 @@ use crate::entries::codes::{
     ACCEPTED, BACKGAMMON, BAR, DOUBLED, DROPPED, GAMMON, LEAST_PIPS, LOWEST_START, MOST_PIPS,
     MOST_STEPS, MOVED, NORMAL, OPENING, REJECTED, RESIGNED, ROLLED, TAKEN,
 };
-use crate::entries::reader::{ReadFault, Reader};
+use crate::entries::reader::{FieldFault, Reader};
 use crate::saves::layouts::Layout;
 use bg_board::{Die, Step};
 use bg_match::{Action, Entry, Level};
 use bg_turns::{Dice, Turn};
 
 #[tactic(auto, unfolding(crate::specs::Entries::EntryReading::step_at))]
-fn step(reader: &mut Reader<'_>) -> Result<Step, ReadFault>
+fn step(reader: &mut Reader<'_>) -> Result<Step, FieldFault>
     ensures { Reads result reader.new (step_at reader.old) }
 {
     let from = reader.read_u8(LOWEST_START, BAR)?;
-    let at = reader.at();
     let to = reader.read_u8(0, from - 1)?;
-    Step::new(from, to).ok_or(ReadFault::Field(at))
+    Step::new(from, to).ok_or(FieldFault::OutOfRange)
 }
 
-fn steps(reader: &mut Reader<'_>, count: u8) -> Result<Turn, ReadFault>
+fn steps(reader: &mut Reader<'_>, count: u8) -> Result<Turn, FieldFault>
     requires { count ≤ MOST_STEPS }
     ensures { Reads result reader.new (many_at step_at count reader.old) }
 {
     let mut turn = Turn::new();
-    let mut rest = reader.copy();
     for _ in 0..count {
-        turn.push(step(&mut rest)?);
+        turn.push(step(reader)?);
     }
-    *reader = rest;
     Ok(turn)
 }
 
 #[tactic(auto, unfolding(crate::specs::Entries::EntryReading::turn_at))]
-fn turn(reader: &mut Reader<'_>) -> Result<Turn, ReadFault>
+fn turn(reader: &mut Reader<'_>) -> Result<Turn, FieldFault>
     ensures { Reads result reader.new (turn_at reader.old) }
 {
     let count = reader.read_u8(0, MOST_STEPS)?;
@@ -46,7 +43,7 @@ fn turn(reader: &mut Reader<'_>) -> Result<Turn, ReadFault>
 }
 
 #[tactic(auto, unfolding(crate::specs::Entries::EntryReading::level_at))]
-fn level(reader: &mut Reader<'_>) -> Result<Level, ReadFault>
+fn level(reader: &mut Reader<'_>) -> Result<Level, FieldFault>
     ensures { Reads result reader.new (level_at reader.old) }
 {
     Ok(match reader.read_u8(NORMAL, BACKGAMMON)? {
@@ -57,16 +54,15 @@ fn level(reader: &mut Reader<'_>) -> Result<Level, ReadFault>
 }
 
 #[tactic(auto, unfolding(crate::specs::Entries::EntryReading::die_at))]
-fn die(reader: &mut Reader<'_>) -> Result<Die, ReadFault>
+fn die(reader: &mut Reader<'_>) -> Result<Die, FieldFault>
     ensures { Reads result reader.new (die_at reader.old) }
 {
-    let at = reader.at();
     let pips = reader.read_u8(LEAST_PIPS, MOST_PIPS)?;
-    Die::new(pips).ok_or(ReadFault::Field(at))
+    Die::new(pips).ok_or(FieldFault::OutOfRange)
 }
 
 #[tactic(auto, unfolding(crate::specs::Entries::EntryReading::dice_at))]
-fn dice(reader: &mut Reader<'_>) -> Result<Dice, ReadFault>
+fn dice(reader: &mut Reader<'_>) -> Result<Dice, FieldFault>
     ensures { Reads result reader.new (dice_at reader.old) }
 {
     let first = die(reader)?;
@@ -76,7 +72,7 @@ fn dice(reader: &mut Reader<'_>) -> Result<Dice, ReadFault>
 
 /// Reads what follows the code of an action.
 #[tactic(auto, unfolding(crate::specs::Entries::EntryReading::action_of))]
-fn action_of(reader: &mut Reader<'_>, code: u8) -> Result<Action, ReadFault>
+fn action_of(reader: &mut Reader<'_>, code: u8) -> Result<Action, FieldFault>
     ensures { Reads result reader.new (action_of code reader.old) }
 {
     Ok(match code {
@@ -92,7 +88,7 @@ fn action_of(reader: &mut Reader<'_>, code: u8) -> Result<Action, ReadFault>
 }
 
 #[tactic(auto, unfolding(crate::specs::Entries::EntryReading::action_at))]
-pub(crate) fn action(reader: &mut Reader<'_>) -> Result<Action, ReadFault>
+pub(crate) fn action(reader: &mut Reader<'_>) -> Result<Action, FieldFault>
     ensures { Reads result reader.new (action_at reader.old) }
 {
     let code = reader.read_u8(ROLLED, REJECTED)?;
@@ -101,7 +97,7 @@ pub(crate) fn action(reader: &mut Reader<'_>) -> Result<Action, ReadFault>
 
 /// Reads what follows the code of an entry.
 #[tactic(auto, unfolding(crate::specs::Entries::EntryReading::entry_of))]
-fn entry_of(reader: &mut Reader<'_>, code: u8) -> Result<Entry, ReadFault>
+fn entry_of(reader: &mut Reader<'_>, code: u8) -> Result<Entry, FieldFault>
     ensures { Reads result reader.new (entry_of code reader.old) }
 {
     Ok(match code {
@@ -122,7 +118,7 @@ fn entry_of(reader: &mut Reader<'_>, code: u8) -> Result<Entry, ReadFault>
 }
 
 #[tactic(auto, unfolding(crate::specs::Entries::EntryReading::entry_at))]
-pub(crate) fn entry(reader: &mut Reader<'_>, layout: Layout) -> Result<Entry, ReadFault>
+pub(crate) fn entry(reader: &mut Reader<'_>, layout: Layout) -> Result<Entry, FieldFault>
     ensures { Reads result reader.new (entry_at layout reader.old) }
 {
     let code = reader.read_u8(OPENING, layout.last_code())?;

@@ -6,12 +6,12 @@ ghost use Rattle.bg_wire.specs.Entries.Reading.{Reads};
 ghost use Rattle.bg_wire.specs.Entries.RulesReading.{rules_at};
 
 use crate::entries::codes::{RULES_ONE, RULES_TWO};
-use crate::entries::reader::{ReadFault, Reader};
+use crate::entries::reader::{FieldFault, Reader};
 use bg_match::Rules;
 
 /// Reads the rules at the front of the bytes.
 #[tactic(auto, unfolding(crate::specs::Entries::RulesReading::rules_at))]
-pub(crate) fn rules(reader: &mut Reader<'_>) -> Result<Rules, ReadFault>
+pub(crate) fn rules(reader: &mut Reader<'_>) -> Result<Rules, FieldFault>
     ensures { Reads result reader.new (rules_at reader.old) }
 {
     Ok(match reader.read_u8(RULES_ONE, RULES_TWO)? {

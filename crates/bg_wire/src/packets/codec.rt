@@ -63,6 +63,6 @@ fn all(bytes: &[u8]) -> Result<Packet, WireFault>
     match layout::packet(&mut reader) {
         Ok(packet) if reader.is_empty() => Ok(packet),
         Ok(_) => Err(WireFault::Extra),
-        Err(fault) => Err(WireFault::of(fault)),
+        Err(fault) => Err(WireFault::of(reader.fault(fault))),
     }
 }

@@ -8,7 +8,7 @@ ghost use Rattle.bg_wire.specs.Packets.PacketReading.{behind_kind_at, body_at, p
 
 use crate::entries::codes::FIRST_ENTRY;
 use crate::entries::entry_reading::{action, entry};
-use crate::entries::reader::{ReadFault, Reader};
+use crate::entries::reader::{FieldFault, ReadFault, Reader};
 use crate::entries::rules_bytes::rules;
 use crate::saves::layouts::Layout;
 use crate::{
@@ -58,7 +58,7 @@ impl WireFault {
 }
 
 #[tactic(auto, unfolding(crate::specs::Packets::PacketReading::want_at))]
-fn want(reader: &mut Reader<'_>, id: u64, rules: Rules) -> Result<Packet, ReadFault>
+fn want(reader: &mut Reader<'_>, id: u64, rules: Rules) -> Result<Packet, FieldFault>
     ensures { Reads result reader.new (want_at id rules reader.old) }
 {
     let sender = reader.read_u8(SEAT_OF_X, LAST_WATCHER)?;
@@ -72,7 +72,7 @@ fn want(reader: &mut Reader<'_>, id: u64, rules: Rules) -> Result<Packet, ReadFa
 }
 
 #[tactic(auto, unfolding(crate::specs::Packets::PacketReading::claim_at))]
-fn claim(reader: &mut Reader<'_>, id: u64, rules: Rules) -> Result<Packet, ReadFault>
+fn claim(reader: &mut Reader<'_>, id: u64, rules: Rules) -> Result<Packet, FieldFault>
     ensures { Reads result reader.new (claim_at id rules reader.old) }
 {
     let sender = reader.read_u8(SEAT_OF_X, SEAT_OF_O)?;
@@ -102,7 +102,7 @@ fn most_from(start: Number) -> u8
     }
 }
 
-fn list_of(reader: &mut Reader<'_>, count: u8) -> Result<EntryList, ReadFault>
+fn list_of(reader: &mut Reader<'_>, count: u8) -> Result<EntryList, FieldFault>
     requires { count ≤ MOST_ENTRIES_IN_PACKET }
     ensures { Reads result reader.new (many_at (entry_at Layout.Two) count reader.old) }
 {
@@ -114,7 +114,7 @@ fn list_of(reader: &mut Reader<'_>, count: u8) -> Result<EntryList, ReadFault>
 }
 
 #[tactic(auto, unfolding(crate::specs::Packets::PacketReading::list_at))]
-fn list(reader: &mut Reader<'_>, start: Number) -> Result<EntryList, ReadFault>
+fn list(reader: &mut Reader<'_>, start: Number) -> Result<EntryList, FieldFault>
     requires first { 1 ≤ start }
     requires last { start ≤ most_entries }
     ensures { Reads result reader.new (list_at start reader.old) }
@@ -124,7 +124,7 @@ fn list(reader: &mut Reader<'_>, start: Number) -> Result<EntryList, ReadFault>
 }
 
 #[tactic(auto, unfolding(crate::specs::Packets::PacketReading::entries_at))]
-fn entries(reader: &mut Reader<'_>, id: u64, rules: Rules) -> Result<Packet, ReadFault>
+fn entries(reader: &mut Reader<'_>, id: u64, rules: Rules) -> Result<Packet, FieldFault>
     ensures { Reads result reader.new (entries_at id rules reader.old) }
 {
     let start = reader.read_u32(FIRST_ENTRY, MOST_ENTRIES)?;
@@ -139,7 +139,7 @@ fn entries(reader: &mut Reader<'_>, id: u64, rules: Rules) -> Result<Packet, Rea
 
 /// Reads what follows the header.
 #[tactic(auto, unfolding(crate::specs::Packets::PacketReading::body_at))]
-fn body(reader: &mut Reader<'_>, kind: u8, id: u64, rules: Rules) -> Result<Packet, ReadFault>
+fn body(reader: &mut Reader<'_>, kind: u8, id: u64, rules: Rules) -> Result<Packet, FieldFault>
     ensures { Reads result reader.new (body_at kind id rules reader.old) }
 {
     match kind {
@@ -151,7 +151,7 @@ fn body(reader: &mut Reader<'_>, kind: u8, id: u64, rules: Rules) -> Result<Pack
 
 /// Reads what follows the kind.
 #[tactic(auto, unfolding(crate::specs::Packets::PacketReading::behind_kind_at))]
-fn behind_kind(reader: &mut Reader<'_>, kind: u8) -> Result<Packet, ReadFault>
+fn behind_kind(reader: &mut Reader<'_>, kind: u8) -> Result<Packet, FieldFault>
     ensures { Reads result reader.new (behind_kind_at kind reader.old) }
 {
     let id = reader.read_u64()?;
@@ -161,7 +161,7 @@ fn behind_kind(reader: &mut Reader<'_>, kind: u8) -> Result<Packet, ReadFault>
 
 /// Reads a packet at the front of the bytes.
 #[tactic(auto, unfolding(crate::specs::Packets::PacketReading::packet_at))]
-pub(crate) fn packet(reader: &mut Reader<'_>) -> Result<Packet, ReadFault>
+pub(crate) fn packet(reader: &mut Reader<'_>) -> Result<Packet, FieldFault>
     ensures { Reads result reader.new (packet_at reader.old) }
 {
     reader.read_u16(MAGIC, MAGIC)?;

@@ -10,7 +10,7 @@ ghost use Rattle.bg_wire.specs.Saved.SavedReading.{front_in, front_at, load_faul
 
 use crate::entries::codes::{FIRST_ENTRY, PASSED, REJECTED};
 use crate::entries::entry_reading::{action, entry};
-use crate::entries::reader::{ReadFault, Reader};
+use crate::entries::reader::{FieldFault, ReadFault, Reader};
 use crate::entries::rules_bytes::rules as told_rules;
 use crate::{FIRST_SAVE, LAST_SAVE, LoadFault, REFEREE, SEAT_OF_O};
 use bg_match::{Action, LONGEST_MATCH, MOST_ENTRIES, Number, Rules, SHORTEST_MATCH, Terms};
@@ -90,7 +90,7 @@ impl Layout {
 
 /// Reads the number of an entry, from `low` to the greatest of the layout.
 #[tactic(auto, unfolding(crate::specs::Saved::SavedReading::number_in))]
-fn number(reader: &mut Reader<'_>, layout: Layout, low: u16) -> Result<Number, ReadFault>
+fn number(reader: &mut Reader<'_>, layout: Layout, low: u16) -> Result<Number, FieldFault>
     ensures { Reads result reader.new (number_in layout low reader.old) }
 {
     match layout {
@@ -103,7 +103,7 @@ fn number(reader: &mut Reader<'_>, layout: Layout, low: u16) -> Result<Number, R
 fn kept_claim(
     reader: &mut Reader<'_>,
     layout: Layout,
-) -> Result<Option<(Number, Action)>, ReadFault>
+) -> Result<Option<(Number, Action)>, FieldFault>
     ensures { Reads result reader.new (kept_claim_in layout reader.old) }
 {
     let number = number(reader, layout, FIRST_ENTRY as u16)?;
@@ -127,7 +127,7 @@ fn claim(
     reader: &mut Reader<'_>,
     layout: Layout,
     party: u8,
-) -> Result<Option<(Number, Action)>, ReadFault>
+) -> Result<Option<(Number, Action)>, FieldFault>
     ensures { Reads result reader.new (saved_claim_in layout party reader.old) }
 {
     let flag = reader.read_u8(NO_CLAIM, most_flag(party))?;
@@ -140,7 +140,7 @@ fn claim(
 
 /// Reads the rules, where the layout has them.
 #[tactic(auto, unfolding(crate::specs::Saved::SavedReading::rules_in))]
-fn rules(reader: &mut Reader<'_>, layout: Layout) -> Result<Rules, ReadFault>
+fn rules(reader: &mut Reader<'_>, layout: Layout) -> Result<Rules, FieldFault>
     ensures { Reads result reader.new (rules_in layout reader.old) }
 {
     match layout {
@@ -151,7 +151,7 @@ fn rules(reader: &mut Reader<'_>, layout: Layout) -> Result<Rules, ReadFault>
 
 /// Reads what follows the magic number.
 #[tactic(auto, unfolding(crate::specs::Saved::SavedReading::front_in))]
-fn read_front_in(reader: &mut Reader<'_>, layout: Layout) -> Result<Front, ReadFault>
+fn read_front_in(reader: &mut Reader<'_>, layout: Layout) -> Result<Front, FieldFault>
     ensures reads { Reads result reader.new (front_in layout reader.old) }
     ensures shortest { IfOk result (λ front. shortest_match ≤ match_length front.terms) }
     ensures longest { IfOk result (λ front. match_length front.terms ≤ longest_match) }
@@ -175,7 +175,7 @@ fn read_front_in(reader: &mut Reader<'_>, layout: Layout) -> Result<Front, ReadF
 }
 
 #[tactic(auto, unfolding(crate::specs::Saved::SavedReading::front_at))]
-fn read_front(reader: &mut Reader<'_>) -> Result<Front, ReadFault>
+fn read_front(reader: &mut Reader<'_>) -> Result<Front, FieldFault>
     ensures reads { Reads result reader.new (front_at reader.old) }
     ensures shortest { IfOk result (λ front. shortest_match ≤ match_length front.terms) }
     ensures longest { IfOk result (λ front. match_length front.terms ≤ longest_match) }
@@ -193,7 +193,7 @@ pub(crate) fn split_front(bytes: &[u8]) -> Result<(Front, Reader<'_>), LoadFault
     let mut reader = Reader::new(bytes);
     match read_front(&mut reader) {
         Ok(front) => Ok((front, reader)),
-        Err(fault) => Err(LoadFault::of(fault)),
+        Err(fault) => Err(LoadFault::of(reader.fault(fault))),
     }
 }
 
@@ -207,7 +207,7 @@ pub(crate) fn pass_entries(
 {
     for _ in 0..count {
         if let Err(fault) = entry(reader, layout) {
-            return Err(LoadFault::of(fault));
+            return Err(LoadFault::of(reader.fault(fault)));
         }
     }
     end(reader)

@@ -209,7 +209,7 @@ fn replay(
     for done in 0..count {
         let entry = match entry(reader, layout) {
             Ok(entry) => entry,
-            Err(fault) => return Err(LoadFault::of(fault)),
+            Err(fault) => return Err(LoadFault::of(reader.fault(fault))),
         };
         if let Err(fault) = log.push(entry) {
             pass_entries(reader, layout, count - (done + 1))?;

@@ -6,6 +6,6 @@ use Rattle.bg_wire.proofs.entries.entry_reading.steps.Given as goal
 
 abbrev pub invariant-loop : goal.invariant-loop
 invariant-loop l = record {
-  read : with_front l.turn (many_at step_at (l.count - l.counter) l.rest) ≡ many_at step_at l.count l.fn.reader;
+  read : with_front l.turn (many_at step_at (l.count - l.counter) l.reader) ≡ many_at step_at l.count l.fn.reader;
   len : length l.turn ≡ l.counter;
 }

@@ -4,8 +4,9 @@ use Rattle.std.proofs.lemmas.Result.{err_from_is_err_and}
 use Rattle.bg_match.specs.Match.{Log, IsLegalRecord, IsNext}
 use Rattle.bg_match.specs.Terms.{Terms}
 use Rattle.bg_wire.specs.declared.faults.LoadFault.{LoadFault}
-use Rattle.bg_wire.specs.Entries.Reading.{many_at}
+use Rattle.bg_wire.specs.Entries.Reading.{fault_at, many_at}
 use Rattle.bg_wire.specs.Entries.EntryReading.{entry_at}
+use Rattle.bg_wire.specs.Saved.SavedReading.{load_fault}
 use Rattle.bg_wire.proofs.Many.{goes_on, ends, is_done}
 use Rattle.bg_wire.proofs.OfSaves.Loading.{same_more}
 use Rattle.bg_wire.proofs.OfSaves.Replaying.{whole, rest_fails, rest_ends, not_next, refused_at, replays_to}
@@ -15,8 +16,8 @@ pub returns-in-Err : goal.returns-in-Err
 returns-in-Err c =
     let all = many_at (entry_at c.args.layout) c.args.count c.args.reader.now in
     rw (ends (entry_at c.args.layout) c.loop-done.log.entries c.args.count c.loop-done.done c.loop-done.reader all
-    c.in-Err.fault c.loop-done-test.true c.in-Err.ensures c.loop-done.invariant.read)
-    (ap (λ (f : LoadFault). Err f) c.of.ensures)
+    (fault_at c.in-Err.fault c.entry.new.reader.at) c.loop-done-test.true c.in-Err.ensures c.loop-done.invariant.read)
+    (ap (λ (f : LoadFault). Err f) (c.of.ensures ∙ ap load_fault c.fault.ensures))
 
 pub returns-in_err-pass_entries : goal.returns-in_err-pass_entries
 returns-in_err-pass_entries c =
