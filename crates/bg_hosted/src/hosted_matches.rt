@@ -130,6 +130,12 @@ impl<K: Keeper> HostedMatch<K> {
         self.restless
     }
 
+    /// Returns whether fewer entries are shown than the referee has saved, as after the start of a
+    /// long match: it takes some ticks until all are.
+    pub fn is_behind(&self) -> bool {
+        self.told() < self.saved
+    }
+
     /// Restarts each party whose last restart has failed, lets the seats and the teller send what
     /// is due, and then lets all parties work until nothing moves. Call it again after a while if
     /// [`HostedMatch::is_restless`] says so.

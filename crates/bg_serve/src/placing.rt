@@ -15,13 +15,11 @@ impl<'a> Cluster<'a> {
         files: Vec<File>,
         revision: u64,
     ) -> Result<(), Trouble> {
-        if let Some(long) = &self.saves.long {
-            long.forget(folder);
-        }
         if files.is_empty() {
             self.known.forget(folder);
             return self.remove(folder);
         }
+        self.forget_length(folder);
         self.remove_lacking(folder, &files)?;
         for file in files {
             self.place(file)?;
@@ -70,8 +68,16 @@ impl<'a> Cluster<'a> {
         Ok(())
     }
 
+    /// Forgets whether a match is too long, since there is another state of it, or none.
+    fn forget_length(&self, folder: &str) {
+        if let Some(long) = &self.saves.long {
+            long.forget(folder);
+        }
+    }
+
     /// Removes the folder of a match.
     pub(crate) fn remove(&self, folder: &str) -> Result<(), Trouble> {
+        self.forget_length(folder);
         let name = String::from_str(self.rt.alloc(), folder)?;
         if let Ok(mut behind) = self.saves.behind.try_borrow_mut() {
             behind.note(Change::Remove(name));

@@ -140,11 +140,10 @@ impl<K: Keeper + Drop, S: Store<K> + Drop> Site<K, S> {
         has_news
     }
 
-    /// Returns whether a match has something left to do on a tick. One that is too long to be saved
-    /// has not.
+    /// Returns whether a match has something left to do on a tick.
     pub fn is_restless(&self) -> bool {
         for place in self.places.iter() {
-            if place.is_restless() && !self.store.is_full(place.name.as_str()) {
+            if place.is_restless() && !place.is_still(&self.store) {
                 return true;
             }
         }
@@ -155,7 +154,7 @@ impl<K: Keeper + Drop, S: Store<K> + Drop> Site<K, S> {
     pub fn tick(&mut self) {
         let (mut news, minute) = (self.news, self.patience.now);
         for place in self.places.iter_mut() {
-            if !self.store.is_full(place.name.as_str()) && place.tick() {
+            if !place.is_still(&self.store) && place.tick() {
                 news = news.saturating_add(1);
                 place.news = news;
                 place.quiet = Quiet::broken(minute);

@@ -3,6 +3,7 @@ ghost use Rattle.std.specs.Prelude.{◌≡◌};
 
 use super::Place;
 use crate::frames::Frames;
+use crate::stores::Store;
 use crate::summaries::Summary;
 use bg_board::Player;
 use bg_hosted::{Acted, is_answered};
@@ -14,6 +15,15 @@ impl<K: Keeper + Drop> Place<K> {
     pub(crate) fn is_restless(&self) -> bool {
         match &self.hosted {
             Some(hosted) => hosted.is_restless(),
+            None => false,
+        }
+    }
+
+    /// Returns whether nothing is to be done on a tick: the match is too long to be saved, and all
+    /// that was saved is shown.
+    pub(crate) fn is_still<S: Store<K>>(&self, store: &S) -> bool {
+        match &self.hosted {
+            Some(hosted) => store.is_full(self.name.as_str()) && !hosted.is_behind(),
             None => false,
         }
     }
