@@ -9,6 +9,7 @@ impl Record {
     ghost use Rattle.bg_match.specs.Match.{IsNext, IsRecordFault, IsLegalRecord, IsLog};
 
     /// Appends an entry where there is room for it.
+    #[inline(always)]
     pub(super) fn push_into_room(&mut self, entry: Entry) -> Result<(), EntryFault>
         requires { 0 < self.old.spare }
         ensures ok { IsOk result ↔ IsNext self.old.terms self.old.entries entry }
