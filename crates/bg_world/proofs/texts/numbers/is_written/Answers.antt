@@ -1,4 +1,4 @@
-use Rattle.std.proofs.Common.{◌≡◌, get_or, arith, rules, tests}
+use Rattle.std.proofs.Common.{◌≡◌, get_or, rules, tests}
 use Rattle.bg_world.proofs.Lines.Digits.{written_digits, no_zero_first}
 use Rattle.bg_world.proofs.texts.numbers.is_written.Goals as goal
 
