@@ -32,6 +32,12 @@ abbrev pub Reads : {A : Type 0} → Result A FieldFault → Cursor → Read A �
 Reads (Ok x) new read = read ≡ Ok (x, new)
 Reads (Err e) new read = read ≡ Err (fault_at e new.at)
 
+-- what a reader put into a place, with what it returned and where it stopped, is what reading gives.
+-- At a fault it stands at the field, and the place has nothing to tell
+abbrev pub Fills : {A B : Type 0} → Result B FieldFault → A → Cursor → Read A → Type 0
+Fills (Ok _) value new read = read ≡ Ok (value, new)
+Fills (Err e) value new read = read ≡ Err (fault_at e new.at)
+
 -- the number is out of its range
 abbrev pub is_outside : ℕ → ℕ → ℕ → Bool
 is_outside low high n = nat_lt n low || nat_lt high n

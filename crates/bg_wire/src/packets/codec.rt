@@ -60,9 +60,12 @@ fn all(bytes: &[u8]) -> Result<Packet, WireFault>
     ensures { result ≡ packet_of bytes.now }
 {
     let mut reader = Reader::new(bytes);
-    match layout::packet(&mut reader) {
-        Ok(packet) if reader.is_empty() => Ok(packet),
-        Ok(_) => Err(WireFault::Extra),
-        Err(fault) => Err(WireFault::of(reader.fault(fault))),
+    let mut packet = Packet::default();
+    if let Err(fault) = layout::packet(&mut reader, &mut packet) {
+        return Err(WireFault::of(reader.fault(fault)));
     }
+    if !reader.is_empty() {
+        return Err(WireFault::Extra);
+    }
+    Ok(packet)
 }

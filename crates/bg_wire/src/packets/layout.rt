@@ -1,7 +1,7 @@
 //! The layout of packets, version 2 (docs/FORMATS.md, "Packets").
 ghost use Rattle.std.specs.Prelude.{◌≡◌, ◌≤◌};
 ghost use Rattle.bg_match.specs.Limits.{most_entries};
-ghost use Rattle.bg_wire.specs.Entries.Reading.{Reads, many_at};
+ghost use Rattle.bg_wire.specs.Entries.Reading.{Fills, Reads, many_at};
 ghost use Rattle.bg_wire.specs.Entries.EntryReading.{entry_at};
 ghost use Rattle.bg_wire.specs.Packets.PacketReading.{want_at, claim_at, most_from, list_at, entries_at};
 ghost use Rattle.bg_wire.specs.Packets.PacketReading.{behind_kind_at, body_at, packet_at, wire_fault};
@@ -58,33 +58,45 @@ impl WireFault {
 }
 
 #[tactic(auto, unfolding(crate::specs::Packets::PacketReading::want_at))]
-fn want(reader: &mut Reader<'_>, id: u64, rules: Rules) -> Result<Packet, FieldFault>
-    ensures { Reads result reader.new (want_at id rules reader.old) }
+fn want(
+    reader: &mut Reader<'_>,
+    id: u64,
+    rules: Rules,
+    packet: &mut Packet,
+) -> Result<(), FieldFault>
+    ensures { Fills result packet.new reader.new (want_at id rules reader.old) }
 {
     let sender = reader.read_u8(SEAT_OF_X, LAST_WATCHER)?;
     let held = reader.read_u32(0, MOST_ENTRIES)?;
-    Ok(Packet::Want {
+    *packet = Packet::Want {
         id,
         rules,
         sender,
         held,
-    })
+    };
+    Ok(())
 }
 
 #[tactic(auto, unfolding(crate::specs::Packets::PacketReading::claim_at))]
-fn claim(reader: &mut Reader<'_>, id: u64, rules: Rules) -> Result<Packet, FieldFault>
-    ensures { Reads result reader.new (claim_at id rules reader.old) }
+fn claim(
+    reader: &mut Reader<'_>,
+    id: u64,
+    rules: Rules,
+    packet: &mut Packet,
+) -> Result<(), FieldFault>
+    ensures { Fills result packet.new reader.new (claim_at id rules reader.old) }
 {
     let sender = reader.read_u8(SEAT_OF_X, SEAT_OF_O)?;
     let number = reader.read_u32(FIRST_ENTRY, MOST_ENTRIES)?;
     let action = action(reader)?;
-    Ok(Packet::Claim {
+    *packet = Packet::Claim {
         id,
         rules,
         sender,
         number,
         action,
-    })
+    };
+    Ok(())
 }
 
 /// Returns the greatest number of entries that one packet tells from this number on.
@@ -124,48 +136,60 @@ fn list(reader: &mut Reader<'_>, start: Number) -> Result<EntryList, FieldFault>
 }
 
 #[tactic(auto, unfolding(crate::specs::Packets::PacketReading::entries_at))]
-fn entries(reader: &mut Reader<'_>, id: u64, rules: Rules) -> Result<Packet, FieldFault>
-    ensures { Reads result reader.new (entries_at id rules reader.old) }
+fn entries(
+    reader: &mut Reader<'_>,
+    id: u64,
+    rules: Rules,
+    packet: &mut Packet,
+) -> Result<(), FieldFault>
+    ensures { Fills result packet.new reader.new (entries_at id rules reader.old) }
 {
     let start = reader.read_u32(FIRST_ENTRY, MOST_ENTRIES)?;
     let list = list(reader, start)?;
-    Ok(Packet::Entries {
+    *packet = Packet::Entries {
         id,
         rules,
         start,
         list,
-    })
+    };
+    Ok(())
 }
 
 /// Reads what follows the header.
 #[tactic(auto, unfolding(crate::specs::Packets::PacketReading::body_at))]
-fn body(reader: &mut Reader<'_>, kind: u8, id: u64, rules: Rules) -> Result<Packet, FieldFault>
-    ensures { Reads result reader.new (body_at kind id rules reader.old) }
+fn body(
+    reader: &mut Reader<'_>,
+    kind: u8,
+    id: u64,
+    rules: Rules,
+    packet: &mut Packet,
+) -> Result<(), FieldFault>
+    ensures { Fills result packet.new reader.new (body_at kind id rules reader.old) }
 {
     match kind {
-        WANT => want(reader, id, rules),
-        CLAIM => claim(reader, id, rules),
-        _ => entries(reader, id, rules),
+        WANT => want(reader, id, rules, packet),
+        CLAIM => claim(reader, id, rules, packet),
+        _ => entries(reader, id, rules, packet),
     }
 }
 
 /// Reads what follows the kind.
 #[tactic(auto, unfolding(crate::specs::Packets::PacketReading::behind_kind_at))]
-fn behind_kind(reader: &mut Reader<'_>, kind: u8) -> Result<Packet, FieldFault>
-    ensures { Reads result reader.new (behind_kind_at kind reader.old) }
+fn behind_kind(reader: &mut Reader<'_>, kind: u8, packet: &mut Packet) -> Result<(), FieldFault>
+    ensures { Fills result packet.new reader.new (behind_kind_at kind reader.old) }
 {
     let id = reader.read_u64()?;
     let rules = rules(reader)?;
-    body(reader, kind, id, rules)
+    body(reader, kind, id, rules, packet)
 }
 
 /// Reads a packet at the front of the bytes.
 #[tactic(auto, unfolding(crate::specs::Packets::PacketReading::packet_at))]
-pub(crate) fn packet(reader: &mut Reader<'_>) -> Result<Packet, FieldFault>
-    ensures { Reads result reader.new (packet_at reader.old) }
+pub(crate) fn packet(reader: &mut Reader<'_>, packet: &mut Packet) -> Result<(), FieldFault>
+    ensures { Fills result packet.new reader.new (packet_at reader.old) }
 {
     reader.read_u16(MAGIC, MAGIC)?;
     reader.read_u8(VERSION, VERSION)?;
     let kind = reader.read_u8(WANT, ENTRIES)?;
-    behind_kind(reader, kind)
+    behind_kind(reader, kind, packet)
 }
