@@ -32,7 +32,9 @@ impl Referee {
         match ruling {
             Ruling::OtherMatch => TakeOutcome::OtherMatch,
             Ruling::Nothing => TakeOutcome::Nothing,
-            Ruling::Shows(party, start) => TakeOutcome::Answer(party, self.packet_from(start)),
+            Ruling::Shows(party, start) => {
+                return TakeOutcome::Answer(party, self.packet_from(start));
+            }
             Ruling::Ahead => TakeOutcome::Ahead,
             Ruling::NotYourTurn => TakeOutcome::NotYourTurn,
             Ruling::WordRefused => TakeOutcome::WordRefused,
@@ -43,6 +45,7 @@ impl Referee {
     }
 
     /// Returns the packet that tells the saved entries from a number on.
+    #[inline(always)]
     pub(crate) fn packet_from(&self, start: Number) -> Packet
         requires first { 1 ≤ start }
         requires last { start ≤ self.now.saved }
