@@ -1,5 +1,5 @@
 -- One call of a device, and what is made of its answer.
-use Rattle.std.specs.Prelude.{◌≡◌, ℕ, ◌+◌, List, Option, Some, None, Result, Ok, Err, IfOk, IfSome}
+use Rattle.std.specs.Prelude.{◌≡◌, ℕ, ◌+◌, Bool, true, false, List, Option, Some, None, Result, Ok, Err, IfOk, IfSome}
 use Rattle.std.specs.Global.{Vec}
 use Rattle.arrayvec.specs.ArrayVec.{ArrayVec}
 use Rattle.bg_wire.specs.Faults.{IsWireFault}
@@ -34,6 +34,11 @@ IsHand (Ok (Some bytes)) (Err (outcomes.NotAPacket fault)) = IsWireFault fault b
 IsHand (Ok None) (Err o) = o ≡ outcomes.NoDatagram
 IsHand (Err fault) (Err o) = o ≡ link_outcome fault
 IsHand _ _ = ⊥
+
+-- a packet is in hand where there is one, and else the outcome that says why there is none
+abbrev pub hand_of : Bool → Packet → Outcome → Result Packet Outcome
+hand_of true p why = Ok p
+hand_of false p why = Err why
 
 -- One take for a party: what is in hand is what the link gave. Where the link is honest, that was
 -- sent to the party; where it has a plan, it is what the pick names.

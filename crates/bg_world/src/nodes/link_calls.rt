@@ -1,7 +1,7 @@
 //! Single calls of a link.
-ghost use Rattle.std.specs.Prelude.{◌≡◌, IfOk};
+ghost use Rattle.std.specs.Prelude.{◌≡◌, IsTrue};
 ghost use Rattle.bg_wire.specs.Packets.PacketText.{IsPacket};
-ghost use Rattle.bg_world.specs.Devices.DeviceCalls.{Posts, Receives, link_outcome};
+ghost use Rattle.bg_world.specs.Devices.DeviceCalls.{Posts, Receives, hand_of, link_outcome};
 ghost use Rattle.bg_world.specs.Worlds.Views.{link_view};
 
 use crate::{DeviceFault, Link, Outcome};
@@ -17,21 +17,32 @@ pub(crate) fn link_outcome(fault: DeviceFault) -> Outcome
     }
 }
 
-/// Takes a datagram for the party and decodes its packet, or returns the outcome where there is
-/// none.
-pub(crate) fn receive<L: Link>(link: &mut L, party: u8, pick: u32) -> Result<Packet, Outcome>
-    ensures receives { Receives L.is_honest (link_view L.Link link.old) party pick result (link_view L.Link link.new) }
-    ensures fits { IfOk result IsPacket }
+/// Takes a datagram for the party, and decodes its packet into this place. Returns whether there is
+/// a packet; where there is none, the outcome says why.
+pub(crate) fn receive<L: Link>(
+    link: &mut L,
+    party: u8,
+    pick: u32,
+    packet: &mut Packet,
+    outcome: &mut Outcome,
+) -> bool
+    ensures receives { Receives L.is_honest (link_view L.Link link.old) party pick
+        (hand_of result packet.new outcome.new) (link_view L.Link link.new) }
+    ensures fits { IsTrue result → IsPacket packet.new }
 {
     let taken = link.take(party, pick);
-    match &taken {
-        Err(fault) => Err(link_outcome(*fault)),
-        Ok(None) => Err(Outcome::NoDatagram),
+    *outcome = match &taken {
+        Err(fault) => link_outcome(*fault),
+        Ok(None) => Outcome::NoDatagram,
         Ok(Some(bytes)) => match decode(bytes.as_slice()) {
-            Ok(packet) => Ok(packet),
-            Err(fault) => Err(Outcome::NotAPacket(fault)),
+            Ok(found) => {
+                *packet = found;
+                return true;
+            }
+            Err(fault) => Outcome::NotAPacket(fault),
         },
-    }
+    };
+    false
 }
 
 /// Sends a packet to the party.

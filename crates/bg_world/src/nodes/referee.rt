@@ -118,12 +118,29 @@ impl RefereeNode {
         ensures takes { RefereeNodeTakes L.is_honest parties (link_view L.Link link.old) (referee_node_of self.old)
             pick word result (link_view L.Link link.new) (referee_node_of self.new) }
     {
+        let mut outcome = Outcome::Down;
+        self.take_into(link, parties, pick, word, &mut outcome);
+        outcome
+    }
+
+    /// Takes what the link gives for this pick, with a place for the outcome.
+    pub(crate) fn take_into<L: Link>(
+        &mut self,
+        link: &mut L,
+        parties: usize,
+        pick: u32,
+        word: u32,
+        outcome: &mut Outcome,
+    )
+        ensures under_way { self.new.under_way ≡ under_way_after self.old.under_way outcome.new }
+        ensures takes { RefereeNodeTakes L.is_honest parties (link_view L.Link link.old) (referee_node_of self.old)
+            pick word outcome.new (link_view L.Link link.new) (referee_node_of self.new) }
+    {
         match &mut self.core {
-            None => Outcome::Down,
+            None => *outcome = Outcome::Down,
             Some(core) => {
-                let outcome = take_at_referee(link, parties, core, pick, word);
-                end_where_changed(&mut self.under_way, &outcome);
-                outcome
+                take_at_referee(link, parties, core, pick, word, outcome);
+                end_where_changed(&mut self.under_way, outcome);
             }
         }
     }
@@ -135,9 +152,20 @@ impl RefereeNode {
         ensures ticks { RefereeNodeTicks L.is_honest parties (link_view L.Link link.old) (referee_node_of self.old)
             result (link_view L.Link link.new) (referee_node_of self.new) }
     {
+        let mut outcome = Outcome::Down;
+        self.tick_into(link, parties, &mut outcome);
+        outcome
+    }
+
+    /// Sends what its core returns, with a place for the outcome.
+    pub(crate) fn tick_into<L: Link>(&mut self, link: &mut L, parties: usize, outcome: &mut Outcome)
+        ensures under_way { self.new.under_way ≡ self.old.under_way }
+        ensures ticks { RefereeNodeTicks L.is_honest parties (link_view L.Link link.old) (referee_node_of self.old)
+            outcome.new (link_view L.Link link.new) (referee_node_of self.new) }
+    {
         match &mut self.core {
-            None => Outcome::Down,
-            Some(core) => tick_referee(link, parties, core),
+            None => *outcome = Outcome::Down,
+            Some(core) => tick_referee(link, parties, core, outcome),
         }
     }
 

@@ -138,13 +138,23 @@ impl SeatNode {
         ensures takes { SeatNodeTakes L.is_honest (link_view L.Link link.old) (seat_node_of self.old) pick
             result (link_view L.Link link.new) (seat_node_of self.new) }
     {
+        let mut outcome = Outcome::Down;
+        self.take_into(link, pick, &mut outcome);
+        outcome
+    }
+
+    /// Takes what the link gives for this pick, with a place for the outcome.
+    pub(crate) fn take_into<L: Link>(&mut self, link: &mut L, pick: u32, outcome: &mut Outcome)
+        ensures under_way { self.new.under_way ≡ under_way_after self.old.under_way outcome.new }
+        ensures takes { SeatNodeTakes L.is_honest (link_view L.Link link.old) (seat_node_of self.old) pick
+            outcome.new (link_view L.Link link.new) (seat_node_of self.new) }
+    {
         let party = party_of(self.player);
         match &mut self.core {
-            None => Outcome::Down,
+            None => *outcome = Outcome::Down,
             Some(core) => {
-                let outcome = take_at_follower(link, party, core, pick);
-                end_where_changed(&mut self.under_way, &outcome);
-                outcome
+                take_at_follower(link, party, core, pick, outcome);
+                end_where_changed(&mut self.under_way, outcome);
             }
         }
     }
@@ -157,9 +167,21 @@ impl SeatNode {
         ensures ticks { SeatNodeTicks L.is_honest parties (link_view L.Link link.old) (seat_node_of self.old)
             result (link_view L.Link link.new) (seat_node_of self.new) }
     {
+        let mut outcome = Outcome::Down;
+        self.tick_into(link, parties, &mut outcome);
+        outcome
+    }
+
+    /// Sends what its core returns, with a place for the outcome.
+    pub(crate) fn tick_into<L: Link>(&mut self, link: &mut L, parties: usize, outcome: &mut Outcome)
+        requires { 1 ≤ parties }
+        ensures under_way { self.new.under_way ≡ self.old.under_way }
+        ensures ticks { SeatNodeTicks L.is_honest parties (link_view L.Link link.old) (seat_node_of self.old)
+            outcome.new (link_view L.Link link.new) (seat_node_of self.new) }
+    {
         match &mut self.core {
-            None => Outcome::Down,
-            Some(core) => tick_follower(link, parties, core),
+            None => *outcome = Outcome::Down,
+            Some(core) => tick_follower(link, parties, core, outcome),
         }
     }
 

@@ -44,17 +44,16 @@ pub(crate) fn take_at_referee<L: Link>(
     core: &mut Referee,
     pick: u32,
     word: u32,
-) -> Outcome
+    outcome: &mut Outcome,
+)
     ensures next { core.new.next_save ≡ core.old.next_save }
     ensures calls { RefereeTakeCalls L.is_honest parties (link_view L.Link link.old) core.old pick word
-        result (link_view L.Link link.new) core.new }
+        outcome.new (link_view L.Link link.new) core.new }
 {
-    match receive(link, REFEREE, pick) {
-        Err(why) => why,
-        Ok(packet) => {
-            let took = hand_to_referee(core, &packet, word);
-            send_answer(link, parties, took)
-        }
+    let mut packet = Packet::default();
+    if receive(link, REFEREE, pick, &mut packet, outcome) {
+        let took = hand_to_referee(core, &packet, word);
+        *outcome = send_answer(link, parties, took);
     }
 }
 
@@ -64,13 +63,14 @@ pub(crate) fn take_at_follower<F: Follows, L: Link>(
     party: u8,
     core: &mut F,
     pick: u32,
-) -> Outcome
+    outcome: &mut Outcome,
+)
     ensures next { F.next core.new ≡ F.next core.old }
     ensures calls { FollowerTakeCalls F.takes L.is_honest party (link_view L.Link link.old) core.old pick
-        result (link_view L.Link link.new) core.new }
+        outcome.new (link_view L.Link link.new) core.new }
 {
-    match receive(link, party, pick) {
-        Err(why) => why,
-        Ok(packet) => Outcome::Learned(core.hear(&packet)),
+    let mut packet = Packet::default();
+    if receive(link, party, pick, &mut packet, outcome) {
+        *outcome = Outcome::Learned(core.hear(&packet));
     }
 }

@@ -51,13 +51,18 @@ fn send_to_referee<L: Link>(link: &mut L, parties: usize, packet: &Option<Packet
 
 /// Sends what the referee's tick returns. `parties` is the number of parties, whose numbers are
 /// from 0.
-pub(crate) fn tick_referee<L: Link>(link: &mut L, parties: usize, core: &mut Referee) -> Outcome
+pub(crate) fn tick_referee<L: Link>(
+    link: &mut L,
+    parties: usize,
+    core: &mut Referee,
+    outcome: &mut Outcome,
+)
     ensures next { core.new.next_save ≡ core.old.next_save }
     ensures calls { RefereeTickCalls L.is_honest parties (link_view L.Link link.old) core.old
-        result (link_view L.Link link.new) core.new }
+        outcome.new (link_view L.Link link.new) core.new }
 {
     let packets = core.tick();
-    send_all(link, parties, packets.as_slice())
+    *outcome = send_all(link, parties, packets.as_slice());
 }
 
 /// Sends what a follower's tick returns. `parties` is the number of parties, whose numbers are from
@@ -66,12 +71,13 @@ pub(crate) fn tick_follower<F: Follows, L: Link>(
     link: &mut L,
     parties: usize,
     core: &mut F,
-) -> Outcome
+    outcome: &mut Outcome,
+)
     requires { 1 ≤ parties }
     ensures next { F.next core.new ≡ F.next core.old }
     ensures calls { FollowerTickCalls F.ticks L.is_honest parties (link_view L.Link link.old) core.old
-        result (link_view L.Link link.new) core.new }
+        outcome.new (link_view L.Link link.new) core.new }
 {
     let packet = core.ask();
-    send_to_referee(link, parties, &packet)
+    *outcome = send_to_referee(link, parties, &packet);
 }

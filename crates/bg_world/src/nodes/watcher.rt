@@ -71,7 +71,17 @@ impl WatcherNode {
         ensures { FollowerTakeCalls WatcherTakes L.is_honest self.old.party (link_view L.Link link.old) self.old pick
             result (link_view L.Link link.new) self.new }
     {
-        take_at_follower(link, self.party, &mut self.core, pick)
+        let mut outcome = Outcome::NoDatagram;
+        self.take_into(link, pick, &mut outcome);
+        outcome
+    }
+
+    /// Takes what the link gives for this pick, with a place for the outcome.
+    pub(crate) fn take_into<L: Link>(&mut self, link: &mut L, pick: u32, outcome: &mut Outcome)
+        ensures { FollowerTakeCalls WatcherTakes L.is_honest self.old.party (link_view L.Link link.old) self.old pick
+            outcome.new (link_view L.Link link.new) self.new }
+    {
+        take_at_follower(link, self.party, &mut self.core, pick, outcome)
     }
 
     /// Sends the packet that its core returns. `parties` is the number of parties, whose numbers
@@ -81,6 +91,17 @@ impl WatcherNode {
         ensures { FollowerTickCalls WatcherTicks L.is_honest parties (link_view L.Link link.old) self.old
             result (link_view L.Link link.new) self.new }
     {
-        tick_follower(link, parties, &mut self.core)
+        let mut outcome = Outcome::Sent(0);
+        self.tick_into(link, parties, &mut outcome);
+        outcome
+    }
+
+    /// Sends what its core returns, with a place for the outcome.
+    pub(crate) fn tick_into<L: Link>(&mut self, link: &mut L, parties: usize, outcome: &mut Outcome)
+        requires { 1 ≤ parties }
+        ensures { FollowerTickCalls WatcherTicks L.is_honest parties (link_view L.Link link.old) self.old
+            outcome.new (link_view L.Link link.new) self.new }
+    {
+        tick_follower(link, parties, &mut self.core, outcome)
     }
 }

@@ -87,27 +87,41 @@ impl Watchers {
     }
 
     /// Takes what the link gives for this pick, at the watcher with this index.
-    pub(crate) fn take<L: Link>(&mut self, link: &mut L, index: usize, pick: u32) -> Outcome
+    pub(crate) fn take<L: Link>(
+        &mut self,
+        link: &mut L,
+        index: usize,
+        pick: u32,
+        outcome: &mut Outcome,
+    )
         ensures { WatchersTake L.is_honest (link_view L.Link link.old) self.old index pick
-            result (link_view L.Link link.new) self.new }
+            outcome.new (link_view L.Link link.new) self.new }
     {
         let Some(node) = self.nodes.get_mut(index) else {
-            return Outcome::NoSuchParty;
+            *outcome = Outcome::NoSuchParty;
+            return;
         };
-        node.take(link, pick)
+        node.take_into(link, pick, outcome)
     }
 
     /// Sends the packet that the core of the watcher at an index returns. `parties` is the number
     /// of parties, whose numbers are from 0, the referee among them.
-    pub(crate) fn tick<L: Link>(&mut self, link: &mut L, parties: usize, index: usize) -> Outcome
+    pub(crate) fn tick<L: Link>(
+        &mut self,
+        link: &mut L,
+        parties: usize,
+        index: usize,
+        outcome: &mut Outcome,
+    )
         requires { 1 ≤ parties }
         ensures { WatchersTick L.is_honest parties (link_view L.Link link.old) self.old index
-            result (link_view L.Link link.new) self.new }
+            outcome.new (link_view L.Link link.new) self.new }
     {
         let Some(node) = self.nodes.get_mut(index) else {
-            return Outcome::NoSuchParty;
+            *outcome = Outcome::NoSuchParty;
+            return;
         };
-        node.tick(link, parties)
+        node.tick_into(link, parties, outcome)
     }
 
     /// Restarts the watcher at an index, with no entry.

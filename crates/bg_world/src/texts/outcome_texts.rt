@@ -1,5 +1,5 @@
 //! The lines of outcomes.
-ghost use Rattle.std.specs.Prelude.{◌≡◌, ◌≤◌, ◌++◌, length, codes};
+ghost use Rattle.std.specs.Prelude.{◌≡◌, ◌≤◌, ◌++◌, [], length, codes};
 ghost use Rattle.std.specs.Fmt.{decimal};
 ghost use Rattle.bg_wire.specs.FaultWords.{wire_fault_words};
 ghost use Rattle.bg_world.specs.Texts.OutcomeText.{OutcomeTextsDiffer, answer_text, cause_words, chose_text, due_text};
@@ -22,23 +22,33 @@ type Line = ArrayString<80>;
 pub fn outcome_text(outcome: &Outcome) -> ArrayString<80>
     ensures { result.bytes ≡ outcome_text outcome.now }
 {
+    let mut line = ArrayString::new();
+    put_outcome_text(&mut line, outcome);
+    line
+}
+
+/// Writes the line of an outcome to a line that is empty.
+pub(crate) fn put_outcome_text(line: &mut ArrayString<80>, outcome: &Outcome)
+    requires empty { line.old.bytes ≡ [] }
+    ensures { line.new.bytes ≡ outcome_text outcome.now }
+{
     match outcome {
-        Outcome::Due(result) => due_text(result),
-        Outcome::Took(took) => took_text(took),
-        Outcome::Learned(learned) => learned_text(*learned),
-        Outcome::Chose(result) => chose_text(result),
-        Outcome::Saved(number) => numbered("saved ", (*number).into()),
-        Outcome::SavesSpent => words("saves spent"),
-        Outcome::Sent(count) => numbered("sent ", (*count).into()),
-        Outcome::Restarted => words("restarted"),
-        Outcome::NoDatagram => words("no datagram"),
-        Outcome::NotAPacket(fault) => no_packet_text(*fault),
-        Outcome::Down => words("down"),
-        Outcome::NoSuchParty => words("no such party"),
-        Outcome::LinkFault => words("link fault"),
-        Outcome::SaveFault => words("save fault"),
-        Outcome::RestoreFault(cause) => reasoned("restore fault: ", cause.words()),
-        Outcome::Memory => words("out of memory"),
+        Outcome::Due(result) => put_due(line, result),
+        Outcome::Took(took) => put_took(line, took),
+        Outcome::Learned(learned) => put_learned(line, *learned),
+        Outcome::Chose(result) => put_chose(line, result),
+        Outcome::Saved(number) => put_numbered(line, "saved ", (*number).into()),
+        Outcome::SavesSpent => line.push_str("saves spent"),
+        Outcome::Sent(count) => put_numbered(line, "sent ", (*count).into()),
+        Outcome::Restarted => line.push_str("restarted"),
+        Outcome::NoDatagram => line.push_str("no datagram"),
+        Outcome::NotAPacket(fault) => put_no_packet(line, *fault),
+        Outcome::Down => line.push_str("down"),
+        Outcome::NoSuchParty => line.push_str("no such party"),
+        Outcome::LinkFault => line.push_str("link fault"),
+        Outcome::SaveFault => line.push_str("save fault"),
+        Outcome::RestoreFault(cause) => put_reasoned(line, "restore fault: ", cause.words()),
+        Outcome::Memory => line.push_str("out of memory"),
     }
 }
 
@@ -49,63 +59,56 @@ pub fn outcome_texts_differ()
     ensures { OutcomeTextsDiffer }
 {}
 
-fn words(text: &str) -> Line
-    requires { length text.now ≤ 40 }
-    ensures { result.bytes ≡ text.now }
-{
-    let mut line = ArrayString::new();
-    line.push_str(text);
-    line
-}
-
-/// Returns words, followed by a number.
-fn numbered(text: &str, number: u64) -> Line
-    requires { length text.now ≤ 40 }
-    ensures { result.bytes ≡ text.now ++ decimal number }
+/// Writes words, followed by a number, to a line that is empty.
+fn put_numbered(line: &mut Line, text: &str, number: u64)
+    requires empty { line.old.bytes ≡ [] }
+    requires text { length text.now ≤ 40 }
+    ensures { line.new.bytes ≡ text.now ++ decimal number }
 {
     let mut digits = Buffer::new();
-    let mut line = words(text);
+    line.push_str(text);
     line.push_str(digits.format(number));
-    line
 }
 
-/// Returns words, followed by a reason.
-fn reasoned(text: &str, reason: &str) -> Line
+/// Writes words, followed by a reason, to a line that is empty.
+fn put_reasoned(line: &mut Line, text: &str, reason: &str)
+    requires empty { line.old.bytes ≡ [] }
     requires text { length text.now ≤ 40 }
     requires reason { length reason.now ≤ 40 }
-    ensures { result.bytes ≡ text.now ++ reason.now }
+    ensures { line.new.bytes ≡ text.now ++ reason.now }
 {
-    let mut line = words(text);
+    line.push_str(text);
     line.push_str(reason);
-    line
 }
 
-fn due_text(due: &Result<Number, DueFault>) -> Line
-    ensures { result.bytes ≡ due_text due.now }
+fn put_due(line: &mut Line, due: &Result<Number, DueFault>)
+    requires empty { line.old.bytes ≡ [] }
+    ensures { line.new.bytes ≡ due_text due.now }
 {
     match due {
-        Ok(number) => numbered("entry ", (*number).into()),
-        Err(DueFault::NothingDue) => words("due refused: nothing due"),
-        Err(DueFault::WordRefused) => words("due refused: word refused"),
-        Err(DueFault::EqualOpening) => words("due refused: equal opening"),
-        Err(DueFault::RecordFull) => words("due refused: record full"),
-        Err(DueFault::Memory) => words("out of memory"),
+        Ok(number) => put_numbered(line, "entry ", (*number).into()),
+        Err(DueFault::NothingDue) => line.push_str("due refused: nothing due"),
+        Err(DueFault::WordRefused) => line.push_str("due refused: word refused"),
+        Err(DueFault::EqualOpening) => line.push_str("due refused: equal opening"),
+        Err(DueFault::RecordFull) => line.push_str("due refused: record full"),
+        Err(DueFault::Memory) => line.push_str("out of memory"),
     }
 }
 
-fn took_text(took: &TakeOutcome) -> Line
-    ensures { result.bytes ≡ took_text took.now }
+fn put_took(line: &mut Line, took: &TakeOutcome)
+    requires empty { line.old.bytes ≡ [] }
+    ensures { line.new.bytes ≡ took_text took.now }
 {
     match took {
-        TakeOutcome::OtherMatch => words("other match"),
-        TakeOutcome::Nothing => words("nothing"),
-        TakeOutcome::Answer(to, packet) => answer_text(*to, packet),
-        TakeOutcome::Ahead => words("ahead"),
-        TakeOutcome::NotYourTurn => words("not your turn"),
-        TakeOutcome::WordRefused => words("word refused"),
-        TakeOutcome::Illegal(fault) => reasoned("illegal: ", reason_text(fault).as_str()),
-        TakeOutcome::Memory => words("out of memory"),
-        TakeOutcome::Accepted(number) => numbered("accepted ", (*number).into()),
+        TakeOutcome::OtherMatch => line.push_str("other match"),
+        TakeOutcome::Nothing => line.push_str("nothing"),
+        TakeOutcome::Answer(to, packet) => put_answer(line, *to, packet),
+        TakeOutcome::Ahead => line.push_str("ahead"),
+        TakeOutcome::NotYourTurn => line.push_str("not your turn"),
+        TakeOutcome::WordRefused => line.push_str("word refused"),
+        TakeOutcome::Illegal(fault) => put_reasoned(line, "illegal: ", reason_text(fault).as_str()),
+        TakeOutcome::Memory => line.push_str("out of memory"),
+        TakeOutcome::Accepted(number) => put_numbered(line, "accepted ", (*number).into()),
     }
 }
 
@@ -122,11 +125,12 @@ fn told(packet: &Packet) -> Option<(Number, u64)>
     }
 }
 
-fn answer_text(to: u8, packet: &Packet) -> Line
-    ensures { result.bytes ≡ answer_text to (entries_told packet.now) }
+fn put_answer(line: &mut Line, to: u8, packet: &Packet)
+    requires empty { line.old.bytes ≡ [] }
+    ensures { line.new.bytes ≡ answer_text to (entries_told packet.now) }
 {
     let mut digits = Buffer::new();
-    let mut line = words("answer to ");
+    line.push_str("answer to ");
     line.push_str(digits.format(to));
     match told(packet) {
         Some((first, last)) => {
@@ -139,46 +143,47 @@ fn answer_text(to: u8, packet: &Packet) -> Line
         }
         None => line.push_str(": no entries"),
     }
-    line
 }
 
-fn learned_text(learned: Learned) -> Line
-    ensures { result.bytes ≡ learned_text learned }
+fn put_learned(line: &mut Line, learned: Learned)
+    requires empty { line.old.bytes ≡ [] }
+    ensures { line.new.bytes ≡ learned_text learned }
 {
     match learned {
-        Learned::OtherMatch => words("other match"),
-        Learned::Nothing => words("nothing"),
-        Learned::Conflict(number) => numbered("conflict ", number.into()),
-        Learned::Gap => words("gap"),
-        Learned::Illegal(number) => numbered("illegal entry ", number.into()),
-        Learned::Memory => words("out of memory"),
-        Learned::Grew(count) => numbered("learned ", count.into()),
+        Learned::OtherMatch => line.push_str("other match"),
+        Learned::Nothing => line.push_str("nothing"),
+        Learned::Conflict(number) => put_numbered(line, "conflict ", number.into()),
+        Learned::Gap => line.push_str("gap"),
+        Learned::Illegal(number) => put_numbered(line, "illegal entry ", number.into()),
+        Learned::Memory => line.push_str("out of memory"),
+        Learned::Grew(count) => put_numbered(line, "learned ", count.into()),
     }
 }
 
-fn chose_text(chose: &Result<Number, ChooseFault>) -> Line
-    ensures { result.bytes ≡ chose_text chose.now }
+fn put_chose(line: &mut Line, chose: &Result<Number, ChooseFault>)
+    requires empty { line.old.bytes ≡ [] }
+    ensures { line.new.bytes ≡ chose_text chose.now }
 {
     match chose {
-        Ok(number) => numbered("claimed ", (*number).into()),
-        Err(ChooseFault::NotYourTurn) => words("claim refused: not your turn"),
-        Err(ChooseFault::AlreadyClaimed) => words("claim refused: already claimed"),
+        Ok(number) => put_numbered(line, "claimed ", (*number).into()),
+        Err(ChooseFault::NotYourTurn) => line.push_str("claim refused: not your turn"),
+        Err(ChooseFault::AlreadyClaimed) => line.push_str("claim refused: already claimed"),
         Err(ChooseFault::Illegal(fault)) => {
-            reasoned("claim refused: ", reason_text(fault).as_str())
+            put_reasoned(line, "claim refused: ", reason_text(fault).as_str())
         }
     }
 }
 
-fn no_packet_text(fault: WireFault) -> Line
-    ensures { result.bytes ≡ codes "no packet: " ++ wire_fault_words fault }
+fn put_no_packet(line: &mut Line, fault: WireFault)
+    requires empty { line.old.bytes ≡ [] }
+    ensures { line.new.bytes ≡ codes "no packet: " ++ wire_fault_words fault }
 {
     let (words, number) = fault.words();
-    let mut line = reasoned("no packet: ", words);
+    put_reasoned(line, "no packet: ", words);
     if let Some(number) = number {
         let mut digits = Buffer::new();
         line.push_str(digits.format(number));
     }
-    line
 }
 
 impl RestoreCause {

@@ -16,10 +16,12 @@ ghost use Rattle.bg_world.specs.Protocol.State.{IsSetup};
 ghost use Rattle.bg_world.specs.Worlds.World.{view_of};
 ghost use Rattle.bg_world.specs.declared.worlds.setups.WorldFault.{WorldFault};
 
+use crate::texts::outcome_texts::put_outcome_text;
 use crate::{
     Keeper, Link, MemoryKeeper, MemoryNet, Outcome, Plan, Setup, World, WorldFault, final_text,
-    outcome_text, parse_event, simulate,
+    parse_event, simulate,
 };
+use arrayvec::ArrayString;
 use bg_streams::{EngineFault, Sink, Source, read_input, write_text};
 use bg_text::{MAX_INPUT, TextFault, Verdict, put_number, put_text, split_line, too_long};
 use std::alloc::{AllocError, Global};
@@ -36,7 +38,9 @@ pub(crate) struct Printout {
 fn put_outcome(out: &mut Vec<u8>, outcome: &Outcome) -> Result<(), AllocError>
     ensures { OnOk result (out.new.items ≡ out.old.items ++ line_text (outcome_text outcome.now)) }
 {
-    put_text(out, outcome_text(outcome).as_str())?;
+    let mut line = ArrayString::new();
+    put_outcome_text(&mut line, outcome);
+    put_text(out, line.as_str())?;
     put_text(out, "\n")
 }
 
@@ -59,7 +63,8 @@ fn play<L: Link, K: Keeper>(
             Ok(event) => event,
             Err(fault) => return Ok(Err((count + 1, fault))),
         };
-        let outcome = world.step(event);
+        let mut outcome = Outcome::NoSuchParty;
+        world.happen(event, &mut outcome);
         put_outcome(out, &outcome)?;
         count += 1;
         rest = after;

@@ -101,7 +101,8 @@ impl<L: Link, K: Keeper> World<L, K> {
             faults: 0,
         };
         for event in events {
-            let outcome = self.happen(event.copy());
+            let mut outcome = Outcome::NoSuchParty;
+            self.happen(event.copy(), &mut outcome);
             count(&mut report, &outcome);
         }
         report

@@ -37,93 +37,97 @@ impl<L: Link, K: Keeper> World<L, K> {
         ensures accepted { L.is_honest → K.is_honest → IsReachedWorld (view_of L.Link K.Keeper self.old)
             → IsNotRefused result }
     {
-        self.happen(event)
+        let mut outcome = Outcome::NoSuchParty;
+        self.happen(event, &mut outcome);
+        outcome
     }
 
     /// Makes the calls of an event.
-    pub(crate) fn happen(&mut self, event: Event) -> Outcome
+    pub(crate) fn happen(&mut self, event: Event, outcome: &mut Outcome)
         ensures others { OtherSavesStay (role_of event) self.old self.new }
         ensures calls { Calls L.is_honest K.is_honest (view_of L.Link K.Keeper self.old) event
-            result (view_of L.Link K.Keeper self.new) }
+            outcome.new (view_of L.Link K.Keeper self.new) }
     {
         match event {
-            Event::Due { word } => self.due(word),
-            Event::Take { party, pick, word } => self.take(party, pick, word),
-            Event::Choose { seat, action } => self.choose(seat, action),
-            Event::Save { party } => self.save(party),
-            Event::Tick { party } => self.tick(party),
-            Event::Restart { party } => self.restart(party),
+            Event::Due { word } => self.due(word, outcome),
+            Event::Take { party, pick, word } => self.take(party, pick, word, outcome),
+            Event::Choose { seat, action } => self.choose(seat, action, outcome),
+            Event::Save { party } => self.save(party, outcome),
+            Event::Tick { party } => self.tick(party, outcome),
+            Event::Restart { party } => self.restart(party, outcome),
         }
     }
 
     /// Opens a game at the referee, or passes a turn.
-    fn due(&mut self, word: u32) -> Outcome
+    fn due(&mut self, word: u32, outcome: &mut Outcome)
         ensures others { OtherSavesStay roles.Referee self.old self.new }
-        ensures calls { DueCalls (view_of L.Link K.Keeper self.old) word result (view_of L.Link K.Keeper self.new) }
+        ensures calls { DueCalls (view_of L.Link K.Keeper self.old) word outcome.new (view_of L.Link K.Keeper self.new) }
     {
-        self.referee.due(word)
+        *outcome = self.referee.due(word);
     }
 
     /// Claims what a player chooses, at the player's seat.
-    fn choose(&mut self, player: Player, action: Action) -> Outcome
+    fn choose(&mut self, player: Player, action: Action, outcome: &mut Outcome)
         ensures others { OtherSavesStay (roles.Seat player) self.old self.new }
         ensures calls { ChooseCalls (view_of L.Link K.Keeper self.old) player action
-            result (view_of L.Link K.Keeper self.new) }
+            outcome.new (view_of L.Link K.Keeper self.new) }
     {
         match player {
-            Player::X => self.x.choose(action),
-            Player::O => self.o.choose(action),
+            Player::X => *outcome = self.x.choose(action),
+            Player::O => *outcome = self.o.choose(action),
         }
     }
 
     /// Takes what the link gives for this pick, at a party.
-    fn take(&mut self, party: u8, pick: u32, word: u32) -> Outcome
+    fn take(&mut self, party: u8, pick: u32, word: u32, outcome: &mut Outcome)
         ensures others { OtherSavesStay (role party) self.old self.new }
         ensures calls { TakeCalls L.is_honest (view_of L.Link K.Keeper self.old) (role party) party pick word
-            result (view_of L.Link K.Keeper self.new) }
+            outcome.new (view_of L.Link K.Keeper self.new) }
     {
         let parties = self.parties();
         match Role::of(party) {
-            Role::Referee => self.referee.take(&mut self.link, parties, pick, word),
-            Role::Seat(player) => self.take_at_seat(player, pick),
-            Role::Watcher(index) => self.watchers.take(&mut self.link, index, pick),
+            Role::Referee => self
+                .referee
+                .take_into(&mut self.link, parties, pick, word, outcome),
+            Role::Seat(player) => self.take_at_seat(player, pick, outcome),
+            Role::Watcher(index) => self.watchers.take(&mut self.link, index, pick, outcome),
         }
     }
 
-    fn take_at_seat(&mut self, player: Player, pick: u32) -> Outcome
+    fn take_at_seat(&mut self, player: Player, pick: u32, outcome: &mut Outcome)
         ensures others { OtherSavesStay (roles.Seat player) self.old self.new }
         ensures calls { (word : ℕ) → TakeCalls L.is_honest (view_of L.Link K.Keeper self.old) (roles.Seat player)
-            (party_of player) pick word result (view_of L.Link K.Keeper self.new) }
+            (party_of player) pick word outcome.new (view_of L.Link K.Keeper self.new) }
     {
         match player {
-            Player::X => self.x.take(&mut self.link, pick),
-            Player::O => self.o.take(&mut self.link, pick),
+            Player::X => self.x.take_into(&mut self.link, pick, outcome),
+            Player::O => self.o.take_into(&mut self.link, pick, outcome),
         }
     }
 
     /// Sends what a party's core returns.
-    fn tick(&mut self, party: u8) -> Outcome
+    fn tick(&mut self, party: u8, outcome: &mut Outcome)
         ensures others { OtherSavesStay (role party) self.old self.new }
         ensures calls { TickCalls L.is_honest (view_of L.Link K.Keeper self.old) (role party)
-            result (view_of L.Link K.Keeper self.new) }
+            outcome.new (view_of L.Link K.Keeper self.new) }
     {
         let parties = self.parties();
         match Role::of(party) {
-            Role::Referee => self.referee.tick(&mut self.link, parties),
-            Role::Seat(player) => self.tick_seat(player),
-            Role::Watcher(index) => self.watchers.tick(&mut self.link, parties, index),
+            Role::Referee => self.referee.tick_into(&mut self.link, parties, outcome),
+            Role::Seat(player) => self.tick_seat(player, outcome),
+            Role::Watcher(index) => self.watchers.tick(&mut self.link, parties, index, outcome),
         }
     }
 
-    fn tick_seat(&mut self, player: Player) -> Outcome
+    fn tick_seat(&mut self, player: Player, outcome: &mut Outcome)
         ensures others { OtherSavesStay (roles.Seat player) self.old self.new }
         ensures calls { TickCalls L.is_honest (view_of L.Link K.Keeper self.old) (roles.Seat player)
-            result (view_of L.Link K.Keeper self.new) }
+            outcome.new (view_of L.Link K.Keeper self.new) }
     {
         let parties = self.parties();
         match player {
-            Player::X => self.x.tick(&mut self.link, parties),
-            Player::O => self.o.tick(&mut self.link, parties),
+            Player::X => self.x.tick_into(&mut self.link, parties, outcome),
+            Player::O => self.o.tick_into(&mut self.link, parties, outcome),
         }
     }
 
@@ -201,59 +205,60 @@ impl<L: Link, K: Keeper> World<L, K> {
     }
 
     /// Saves what a party holds.
-    fn save(&mut self, party: u8) -> Outcome
+    fn save(&mut self, party: u8, outcome: &mut Outcome)
         ensures others { OtherSavesStay (role party) self.old self.new }
         ensures calls { SaveCalls K.is_honest (view_of L.Link K.Keeper self.old) (role party)
-            result (view_of L.Link K.Keeper self.new) }
+            outcome.new (view_of L.Link K.Keeper self.new) }
     {
         match Role::of(party) {
-            Role::Referee => self.referee.save(&mut self.keepers.referee),
-            Role::Seat(player) => self.save_seat(player),
-            Role::Watcher(_) => Outcome::NoSuchParty,
+            Role::Referee => *outcome = self.referee.save(&mut self.keepers.referee),
+            Role::Seat(player) => self.save_seat(player, outcome),
+            Role::Watcher(_) => *outcome = Outcome::NoSuchParty,
         }
     }
 
-    fn save_seat(&mut self, player: Player) -> Outcome
+    fn save_seat(&mut self, player: Player, outcome: &mut Outcome)
         ensures others { OtherSavesStay (roles.Seat player) self.old self.new }
         ensures calls { SaveCalls K.is_honest (view_of L.Link K.Keeper self.old) (roles.Seat player)
-            result (view_of L.Link K.Keeper self.new) }
+            outcome.new (view_of L.Link K.Keeper self.new) }
     {
         match player {
-            Player::X => self.x.save(&mut self.keepers.x),
-            Player::O => self.o.save(&mut self.keepers.o),
+            Player::X => *outcome = self.x.save(&mut self.keepers.x),
+            Player::O => *outcome = self.o.save(&mut self.keepers.o),
         }
     }
 
     /// Restarts a party.
-    fn restart(&mut self, party: u8) -> Outcome
+    fn restart(&mut self, party: u8, outcome: &mut Outcome)
         ensures others { OtherSavesStay (role party) self.old self.new }
         ensures calls { RestartCalls K.is_honest (view_of L.Link K.Keeper self.old) (role party) party
-            result (view_of L.Link K.Keeper self.new) }
+            outcome.new (view_of L.Link K.Keeper self.new) }
     {
         match Role::of(party) {
-            Role::Referee => self.referee.restart(&mut self.keepers.referee),
-            Role::Seat(player) => self.restart_seat(player),
-            Role::Watcher(index) => self.restart_watcher(index),
+            Role::Referee => *outcome = self.referee.restart(&mut self.keepers.referee),
+            Role::Seat(player) => self.restart_seat(player, outcome),
+            Role::Watcher(index) => self.restart_watcher(index, outcome),
         }
     }
 
-    fn restart_seat(&mut self, player: Player) -> Outcome
+    fn restart_seat(&mut self, player: Player, outcome: &mut Outcome)
         ensures others { OtherSavesStay (roles.Seat player) self.old self.new }
         ensures calls { (party : ℕ) → RestartCalls K.is_honest (view_of L.Link K.Keeper self.old) (roles.Seat player) party
-            result (view_of L.Link K.Keeper self.new) }
+            outcome.new (view_of L.Link K.Keeper self.new) }
     {
         match player {
-            Player::X => self.x.restart(&mut self.keepers.x),
-            Player::O => self.o.restart(&mut self.keepers.o),
+            Player::X => *outcome = self.x.restart(&mut self.keepers.x),
+            Player::O => *outcome = self.o.restart(&mut self.keepers.o),
         }
     }
 
-    fn restart_watcher(&mut self, index: usize) -> Outcome
+    fn restart_watcher(&mut self, index: usize, outcome: &mut Outcome)
         ensures others { OtherSavesStay (roles.Watcher index) self.old self.new }
         ensures calls { RestartCalls K.is_honest (view_of L.Link K.Keeper self.old) (roles.Watcher index)
-            (first_watcher + index) result (view_of L.Link K.Keeper self.new) }
+            (first_watcher + index) outcome.new (view_of L.Link K.Keeper self.new) }
     {
-        self.watchers
-            .restart(self.alloc, self.id, self.terms, index)
+        *outcome = self
+            .watchers
+            .restart(self.alloc, self.id, self.terms, index);
     }
 }

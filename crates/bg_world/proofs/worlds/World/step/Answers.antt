@@ -11,9 +11,9 @@ returns-clause-others g c = others_stay (role_of c.args.event) c.args.self.now c
 pub returns-clause-protocol : goal.returns-clause-protocol
 returns-clause-protocol g c =
     goes g.L.Link.is_honest g.K.Keeper.is_honest (view_of g.L.Link g.K.Keeper c.args.self.now) c.args.event
-    c.happen.result (view_of g.L.Link g.K.Keeper c.happen.new.self) c.happen.ensures.calls
+    c.happen.new.outcome (view_of g.L.Link g.K.Keeper c.happen.new.self) c.happen.ensures.calls
 
 pub returns-clause-accepted : goal.returns-clause-accepted
 returns-clause-accepted g c =
     never_refused g.L.Link.is_honest g.K.Keeper.is_honest (view_of g.L.Link g.K.Keeper c.args.self.now) c.args.event
-    c.happen.result (view_of g.L.Link g.K.Keeper c.happen.new.self) c.happen.ensures.calls
+    c.happen.new.outcome (view_of g.L.Link g.K.Keeper c.happen.new.self) c.happen.ensures.calls

@@ -15,6 +15,6 @@ returns-in-Seat-clause-calls g c =
     let player = c.in-Seat.player in
     let party : party_of player ≡ c.args.party = sym (c.in-Seat.ensures.seat player refl) in
     let role_is : roles.Seat player ≡ role c.args.party = c.in-Seat.ensures.value in
-    subst (λ (r : Role). TakeCalls honest old r c.args.party c.args.pick c.args.word c.take_at_seat.result new) role_is
-    (subst (λ (p : ℕ). TakeCalls honest old (roles.Seat player) p c.args.pick c.args.word c.take_at_seat.result new)
+    subst (λ (r : Role). TakeCalls honest old r c.args.party c.args.pick c.args.word c.take_at_seat.new.outcome new) role_is
+    (subst (λ (p : ℕ). TakeCalls honest old (roles.Seat player) p c.args.pick c.args.word c.take_at_seat.new.outcome new)
     party (c.take_at_seat.ensures.calls c.args.word))

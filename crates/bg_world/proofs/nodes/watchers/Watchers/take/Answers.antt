@@ -14,10 +14,10 @@ invariant_of-self-inside-2 g c =
     let is = slice_get_read nodes.items nodes.len c.args.index node nodes.ok.0 (c.in-Some.ensures.variant.0 refl)
     c.in-Some.ensures.value in
     let same = take_keeps g.L.Link.is_honest node.party (link_view g.L.Link c.args.link.now) node c.args.pick
-    c.take.result (link_view g.L.Link c.take.new.link) c.take.new.self c.take.ensures in (
+    c.take_into.new.outcome (link_view g.L.Link c.take_into.new.link) c.take_into.new.self c.take_into.ensures in (
       c.self.inside.few,
       (
-        set_numbered nodes.items c.args.index c.take.new.self c.self.inside.numbered
+        set_numbered nodes.items c.args.index c.take_into.new.self c.self.inside.numbered
             (same ∙ c.self.inside.numbered c.args.index node is),
         tt,
       ),
@@ -30,8 +30,8 @@ returns g c =
     let is = slice_get_read nodes.items nodes.len c.args.index node nodes.ok.0 (c.in-Some.ensures.variant.0 refl)
     c.in-Some.ensures.value in
     subst (λ (old : List WatcherView). WatchersTake g.L.Link.is_honest (link_view g.L.Link c.args.link.now) old
-    c.args.index c.args.pick c.take.result (link_view g.L.Link c.take.new.link)
-    (slice_set nodes.items c.args.index c.take.new.self)) c.self.view_is
-    (takes_at g.L.Link.is_honest (link_view g.L.Link c.args.link.now) nodes.items c.args.index c.args.pick c.take.result
-    (link_view g.L.Link c.take.new.link) node c.take.new.self is
-    (c.self.inside.numbered c.args.index node is) c.take.ensures)
+    c.args.index c.args.pick c.take_into.new.outcome (link_view g.L.Link c.take_into.new.link)
+    (slice_set nodes.items c.args.index c.take_into.new.self)) c.self.view_is
+    (takes_at g.L.Link.is_honest (link_view g.L.Link c.args.link.now) nodes.items c.args.index c.args.pick c.take_into.new.outcome
+    (link_view g.L.Link c.take_into.new.link) node c.take_into.new.self is
+    (c.self.inside.numbered c.args.index node is) c.take_into.ensures)

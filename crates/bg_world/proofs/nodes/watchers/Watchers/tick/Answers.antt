@@ -13,11 +13,11 @@ invariant_of-self-inside-2 g c =
     let node = c.in-Some.node.now in
     let is = slice_get_read nodes.items nodes.len c.args.index node nodes.ok.0 (c.in-Some.ensures.variant.0 refl)
     c.in-Some.ensures.value in
-    let same = tick_keeps g.L.Link.is_honest c.args.parties (link_view g.L.Link c.args.link.now) node c.tick.result
-    (link_view g.L.Link c.tick.new.link) c.tick.new.self c.tick.ensures in (
+    let same = tick_keeps g.L.Link.is_honest c.args.parties (link_view g.L.Link c.args.link.now) node c.tick_into.new.outcome
+    (link_view g.L.Link c.tick_into.new.link) c.tick_into.new.self c.tick_into.ensures in (
       c.self.inside.few,
       (
-        set_numbered nodes.items c.args.index c.tick.new.self c.self.inside.numbered
+        set_numbered nodes.items c.args.index c.tick_into.new.self c.self.inside.numbered
             (same ∙ c.self.inside.numbered c.args.index node is),
         tt,
       ),
@@ -30,7 +30,7 @@ returns g c =
     let is = slice_get_read nodes.items nodes.len c.args.index node nodes.ok.0 (c.in-Some.ensures.variant.0 refl)
     c.in-Some.ensures.value in
     subst (λ (old : List WatcherView).
-    WatchersTick g.L.Link.is_honest c.args.parties (link_view g.L.Link c.args.link.now) old c.args.index c.tick.result
-    (link_view g.L.Link c.tick.new.link) (slice_set nodes.items c.args.index c.tick.new.self)) c.self.view_is
+    WatchersTick g.L.Link.is_honest c.args.parties (link_view g.L.Link c.args.link.now) old c.args.index c.tick_into.new.outcome
+    (link_view g.L.Link c.tick_into.new.link) (slice_set nodes.items c.args.index c.tick_into.new.self)) c.self.view_is
     (ticks_at g.L.Link.is_honest c.args.parties (link_view g.L.Link c.args.link.now) nodes.items c.args.index
-    c.tick.result (link_view g.L.Link c.tick.new.link) node c.tick.new.self is c.tick.ensures)
+    c.tick_into.new.outcome (link_view g.L.Link c.tick_into.new.link) node c.tick_into.new.self is c.tick_into.ensures)

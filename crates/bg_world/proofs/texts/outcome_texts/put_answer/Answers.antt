@@ -1,6 +1,6 @@
 use Rattle.std.proofs.Common.{◌≡◌, Some, sym, ap, append_assoc}
 use Rattle.bg_world.specs.Texts.OutcomeText.{entries_told, told_part}
-use Rattle.bg_world.proofs.texts.outcome_texts.answer_text.Goals as goal
+use Rattle.bg_world.proofs.texts.outcome_texts.put_answer.Goals as goal
 
 pub returns-in-Some : goal.returns-in-Some
 returns-in-Some c =
@@ -12,7 +12,8 @@ returns-in-Some c =
       c.push_str-in-Some-2.ensures.bytes,
       c.push_str-in-Some.ensures.bytes,
       c.push_str.ensures.bytes,
-      c.words-line.ensures,
+      c.push_str-2.ensures.bytes,
+      c.requires.empty,
       c.format.ensures.text,
       c.format-in-Some.ensures.text,
       c.format-in-Some-2.ensures.text,
