@@ -27,16 +27,21 @@ pub fn write_digest(
     let path = format!(in rt.alloc(); "{folder}/{NAME}")?;
     let beside = format!(in rt.alloc(); "{folder}/{NAME}.new")?;
     let text = told_text(rt.alloc(), Some(digest), None)?;
+    write_through(rt, beside.as_str(), &text)?;
+    fs::rename(rt, beside.as_str(), path.as_str())?;
+    File::open(rt, folder)?.sync_all()
+}
+
+/// Writes a file, and has it written through.
+fn write_through(rt: &impl Files<File = File>, path: &str, bytes: &[u8]) -> io::Result<()> {
     let mut file = OpenOptions::new()
         .write(true)
         .create(true)
         .truncate(true)
         .mode(OWNER_ALONE)
-        .open(rt, beside.as_str())?;
-    file.write_all(&text)?;
-    file.sync_all()?;
-    fs::rename(rt, beside.as_str(), path.as_str())?;
-    File::open(rt, folder)?.sync_all()
+        .open(rt, path)?;
+    file.write_all(bytes)?;
+    file.sync_all()
 }
 
 /// Reads the SHA-256 that was told of a match's dice before the first roll. Returns `None` where

@@ -1,10 +1,11 @@
 //! The commands by which a new match is played, as a shell reads them.
 
+use bg_board::Player;
 use bg_console::{allocated, print_text, without_slashes};
 use bg_reports::Ending;
 use bg_system::name_of_key_file;
 use bg_text::put_text;
-use bg_wire::{FIRST_WATCHER, SEAT_OF_O, SEAT_OF_X};
+use bg_wire::{FIRST_WATCHER, party_of};
 use std::alloc::{AllocError, Global};
 use std::fmt;
 use std::fmt::{Display, Formatter, Write};
@@ -26,28 +27,55 @@ pub(crate) fn tell_commands(rt: &HostRuntime, called: &str, folder: &str) -> Res
 
 /// Returns the text of the commands.
 fn commands_text(alloc: Global, called: &str, folder: &str) -> Result<Vec<u8>, AllocError> {
-    let joint = joint_of(folder);
-    let folder = format!(in alloc; "{}", ShellWord(without_slashes(folder)))?;
-    let own = format!(in alloc; "--dir {}", folder.as_str())?;
     let mut text = Vec::new(alloc);
     put_text(&mut text, "then run, each in a terminal of its own:\n")?;
-    let referee = format!(in alloc; "{} referee", ShellWord(called))?;
-    put_command(&mut text, referee.as_str(), own.as_str())?;
-    for (party, letter) in [(SEAT_OF_X, "x"), (SEAT_OF_O, "o")] {
-        let key_file = match_words(alloc, folder.as_str(), party)?;
-        let play = format!(in alloc; "{} play {}", ShellWord(called), key_file.as_str())?;
-        let own = format!(in alloc; "--dir {}{joint}{letter}", folder.as_str())?;
-        put_command(&mut text, play.as_str(), own.as_str())?;
-    }
-    let watched = match_words(alloc, folder.as_str(), FIRST_WATCHER)?;
-    let watch = format!(in alloc; "{} watch", ShellWord(called))?;
-    put_command(&mut text, watch.as_str(), watched.as_str())?;
+    put_referee(alloc, &mut text, called, folder)?;
+    put_seat(alloc, &mut text, called, folder, Player::X)?;
+    put_seat(alloc, &mut text, called, folder, Player::O)?;
+    put_watcher(alloc, &mut text, called, folder)?;
     Ok(text)
 }
 
-/// Returns the option that names a party's key file.
-fn match_words(alloc: Global, folder: &str, party: u8) -> Result<String, AllocError> {
-    format!(in alloc; "--match {folder}/{}", name_of_key_file(party))
+/// Appends the command of the referee.
+fn put_referee(
+    alloc: Global,
+    text: &mut Vec<u8>,
+    called: &str,
+    folder: &str,
+) -> Result<(), AllocError> {
+    let referee = format!(in alloc; "{} referee", ShellWord(called))?;
+    let own = format!(in alloc; "--dir {}", ShellWord(without_slashes(folder)))?;
+    put_command(text, referee.as_str(), own.as_str())
+}
+
+/// Appends the command of a player's seat.
+fn put_seat(
+    alloc: Global,
+    text: &mut Vec<u8>,
+    called: &str,
+    folder: &str,
+    player: Player,
+) -> Result<(), AllocError> {
+    let letter = if player == Player::X { "x" } else { "o" };
+    let joint = joint_of(folder);
+    let word = ShellWord(without_slashes(folder));
+    let name = name_of_key_file(party_of(player));
+    let play = format!(in alloc; "{} play --match {word}/{name}", ShellWord(called))?;
+    let own = format!(in alloc; "--dir {word}{joint}{letter}")?;
+    put_command(text, play.as_str(), own.as_str())
+}
+
+/// Appends the command of a watcher.
+fn put_watcher(
+    alloc: Global,
+    text: &mut Vec<u8>,
+    called: &str,
+    folder: &str,
+) -> Result<(), AllocError> {
+    let watch = format!(in alloc; "{} watch", ShellWord(called))?;
+    let name = name_of_key_file(FIRST_WATCHER);
+    let watched = format!(in alloc; "--match {}/{name}", ShellWord(without_slashes(folder)))?;
+    put_command(text, watch.as_str(), watched.as_str())
 }
 
 /// Returns what stands between the name of a match's folder and the letter of a seat in the name of

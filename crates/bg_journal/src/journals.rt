@@ -34,11 +34,36 @@ pub struct Swap<'a> {
     pub after: &'a [u8],
 }
 
+/// The connection of a journal to its database.
+#[derive(Drop)]
+struct Database {
+    connection: Connection<FileStore<File>>,
+}
+
+impl Database {
+    /// Opens the database in a file.
+    fn open(rt: &HostRuntime, path: &str) -> Result<Database, Error> {
+        let connection = Connection::open(rt, path)?;
+        Ok(Database { connection })
+    }
+
+    /// Runs a text with these parameters, which answers no rows. Returns how many it has changed.
+    fn run(&mut self, text: &str, values: &[ValueRef<'_>]) -> Result<usize, Error> {
+        self.connection.execute(text, values)
+    }
+
+    /// Returns the rows that a text with these parameters answers.
+    fn rows(&mut self, text: &str, values: &[ValueRef<'_>]) -> Result<Vec<Row>, Error> {
+        self.connection.query_all(text, values)
+    }
+}
+
 /// A journal, open. One process has it at a time.
 #[derive(Drop)]
 pub struct Journal {
     alloc: Global,
-    connection: Connection<FileStore<File>>,
+    /// In a box, since it is large.
+    database: Box<Database>,
 }
 
 impl Journal {
@@ -47,13 +72,12 @@ impl Journal {
     /// # Errors
     /// Why it could not be opened: `DatabaseBusy` where another process has it.
     pub fn open(rt: &HostRuntime, path: &str) -> Result<Journal, Error> {
-        let connection = Connection::open(rt, path)?;
-        let mut journal = Journal {
+        let mut database = Box::new(rt.alloc(), Database::open(rt, path)?)?;
+        let _ = database.run(TABLE, &[])?;
+        Ok(Journal {
             alloc: rt.alloc(),
-            connection,
-        };
-        journal.run(TABLE, &[])?;
-        Ok(journal)
+            database,
+        })
     }
 
     /// Makes changes durable, all of them or none, in their order. After an error the journal has
@@ -89,7 +113,7 @@ impl Journal {
     /// # Errors
     /// Why it could not be read.
     pub fn find(&mut self, name: &str) -> Result<Option<Vec<u8>>, Error> {
-        match self.rows(FIND, params![name])?.first() {
+        match self.database.rows(FIND, params![name])?.first() {
             Some(row) => Ok(Some(row.get(0)?)),
             None => Ok(None),
         }
@@ -101,7 +125,7 @@ impl Journal {
     /// Why they could not be read.
     pub fn files(&mut self) -> Result<Vec<FileText>, Error> {
         let mut files = Vec::new(self.alloc);
-        for row in self.rows(READ, &[])?.iter() {
+        for row in self.database.rows(READ, &[])?.iter() {
             files.push(file_of(row)?)?;
         }
         Ok(files)
@@ -129,18 +153,13 @@ impl Journal {
     /// Gives a file another text, and returns whether it had the one before it.
     fn swap(&mut self, swap: Swap<'_>) -> Result<bool, Error> {
         let values = params![swap.name, swap.before, swap.after];
-        Ok(self.connection.execute(SWAP, values)? == 1)
+        Ok(self.database.run(SWAP, values)? == 1)
     }
 
     /// Runs a text with these parameters, which answers no rows.
     fn run(&mut self, text: &str, values: &[ValueRef<'_>]) -> Result<(), Error> {
-        let _ = self.connection.execute(text, values)?;
+        let _ = self.database.run(text, values)?;
         Ok(())
-    }
-
-    /// Returns the rows that a text with these parameters answers.
-    fn rows(&mut self, text: &str, values: &[ValueRef<'_>]) -> Result<Vec<Row>, Error> {
-        self.connection.query_all(text, values)
     }
 }
 

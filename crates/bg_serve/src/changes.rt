@@ -40,8 +40,7 @@ pub(crate) fn take_changes(rt: &HostRuntime, tables: &str) -> io::Result<Vec<Str
         entries => entries?,
     };
     for entry in entries {
-        let mark = String::from_str(rt.alloc(), entry?.file_name())?;
-        let name = take_change(rt, folder.as_str(), mark.as_str())?;
+        let name = take_change(rt, folder.as_str(), entry?.file_name())?;
         if names.iter().all(|other| other.as_str() != name.as_str()) {
             names.push(name)?;
         }

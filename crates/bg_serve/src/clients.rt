@@ -6,7 +6,7 @@ use bg_site::{Caller, Channel, Peer, Site, Step, Store};
 use bg_world::Keeper;
 use http_server::{Config, Connection};
 use mio::net::TcpStream;
-use std::alloc::Global;
+use std::alloc::{AllocError, Global};
 use std::hash::RandomState;
 
 /// A client of the server.
@@ -15,7 +15,7 @@ pub(crate) struct Client {
     alloc: Global,
     pub(crate) stream: TcpStream,
     /// None once it is a socket.
-    http: Option<Connection>,
+    http: Option<Box<Connection>>,
     /// Whose connection it is.
     caller: Caller,
     /// Who it is, once its request for a socket was granted.
@@ -45,11 +45,21 @@ pub(crate) fn config() -> Config {
 }
 
 impl Client {
-    pub(crate) fn new(alloc: Global, keys: RandomState, stream: TcpStream, now: u64) -> Client {
-        Client {
+    /// Returns the client at the other end of a connection, which has sent nothing yet.
+    ///
+    /// # Errors
+    /// AllocError where there is no memory for it.
+    pub(crate) fn new(
+        alloc: Global,
+        keys: RandomState,
+        stream: TcpStream,
+        now: u64,
+    ) -> Result<Client, AllocError> {
+        let http = Box::new(alloc, Connection::new(alloc, keys, config()))?;
+        Ok(Client {
             alloc,
             stream,
-            http: Some(Connection::new(alloc, keys, config())),
+            http: Some(http),
             caller: Caller::UNKNOWN,
             upgraded: None,
             channel: None,
@@ -59,7 +69,7 @@ impl Client {
             sent: now,
             heard: now,
             asked: now,
-        }
+        })
     }
 
     /// Returns whether news may be of interest to it.
@@ -176,7 +186,7 @@ impl Client {
             return Step::Gone;
         };
         site.begin_socket(&peer);
-        let (input, output) = connection.into_buffers();
+        let (input, output) = Box::into_inner(connection).into_buffers();
         self.channel = Some(Channel::new(self.alloc, input, output, peer));
         self.since = now;
         self.sent = now;

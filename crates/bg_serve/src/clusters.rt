@@ -14,6 +14,7 @@ use crate::watches::Watch;
 use bg_etcd::{Changes, Fault, removal_text, taken_in, transaction_text};
 use bg_journal::Change;
 use mio::{Events, Poll};
+use std::alloc::AllocError;
 use std::io;
 use std::rc::Rc;
 use std::time::{Duration, Instant};
@@ -21,7 +22,7 @@ use std::time::{Duration, Instant};
 /// So many milliseconds are between two tries to put what was saved into the store.
 const BETWEEN_COMMITS: u64 = 100;
 
-/// The store of a server.
+/// The store of a server. It is large, so it lies in a box.
 #[derive(Drop)]
 pub(crate) struct Cluster<'a> {
     pub(crate) rt: &'a HostRuntime,
@@ -35,7 +36,7 @@ pub(crate) struct Cluster<'a> {
     pub(crate) pending: Pending,
     /// The matches with which another server went on first.
     pub(crate) lost: Vec<String>,
-    pub(crate) watch: Option<Watch>,
+    pub(crate) watch: Option<Box<Watch>>,
     /// Which member is asked for the watch, and up to which revision it has told.
     pub(crate) watch_at: usize,
     pub(crate) watched: u64,
@@ -56,13 +57,16 @@ pub(crate) struct Cluster<'a> {
 
 impl<'a> Cluster<'a> {
     /// Returns the store that these members have, of which nothing is known yet.
+    ///
+    /// # Errors
+    /// AllocError where there is no memory for it.
     pub(crate) fn new(
         copies: Copies<'a>,
         members: Members<'a>,
         (saves, counts): (Rc<TurnSaves>, Rc<SaveCounts>),
-    ) -> Cluster<'a> {
+    ) -> Result<Box<Cluster<'a>>, AllocError> {
         let rt = copies.rt;
-        Cluster {
+        let cluster = Cluster {
             rt,
             copies,
             members,
@@ -82,7 +86,8 @@ impl<'a> Cluster<'a> {
             is_pulse_due: false,
             is_stale: false,
             is_older: false,
-        }
+        };
+        Ok(Box::new(rt.alloc(), cluster)?)
     }
 
     /// Puts into the store what was saved in the turn. Until this succeeds, nothing may be told that

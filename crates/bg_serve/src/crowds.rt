@@ -51,13 +51,13 @@ impl<'a> Server<'a> {
             Token(free + 1),
             Interest::READABLE | Interest::WRITABLE,
         )?;
-        let keys = RandomState::new(self.rt)?;
+        let (alloc, keys) = (self.rt.alloc(), RandomState::new(self.rt)?);
         self.again.push(free)?;
         if free == self.clients.len() {
             self.clients.push(None)?;
         }
         if let Some(slot) = self.clients.get_mut(free) {
-            *slot = Some(Client::new(self.rt.alloc(), keys, stream, now));
+            *slot = Some(Box::new(alloc, Client::new(alloc, keys, stream, now)?)?);
         }
         Ok(())
     }

@@ -12,6 +12,7 @@ use crate::turn_saves::TurnSaves;
 use bg_console::path_in;
 use bg_journal::{Change, FileText, Journal};
 use mio::{Events, Poll};
+use std::alloc::AllocError;
 use std::io;
 use std::rc::Rc;
 use std::time::{Duration, Instant};
@@ -19,7 +20,7 @@ use std::time::{Duration, Instant};
 /// So many milliseconds are between two tries to commit.
 const BETWEEN_COMMITS: u64 = 100;
 
-/// The database of a server.
+/// The database of a server. It is large, so it lies in a box.
 #[derive(Drop)]
 pub(crate) struct Database<'a> {
     rt: &'a HostRuntime,
@@ -46,10 +47,22 @@ impl<'a> Database<'a> {
         folder: &'a str,
         path: &'a str,
         store: &mut FolderStore<'a>,
-    ) -> Result<Database<'a>, Unusable> {
+    ) -> Result<Box<Database<'a>>, Unusable> {
         let fence = begin(rt, folder, path)?;
         let (saves, counts) = store.gather(TurnSaves::new(rt.alloc()))?;
-        let mut database = Database {
+        let mut database = Database::new(rt, (folder, path), fence, (saves, counts))?;
+        database.open()?;
+        Ok(database)
+    }
+
+    /// Returns the database of a folder at a path, which is not open yet.
+    fn new(
+        rt: &'a HostRuntime,
+        (folder, path): (&'a str, &'a str),
+        fence: Fence,
+        (saves, counts): (Rc<TurnSaves>, Rc<SaveCounts>),
+    ) -> Result<Box<Database<'a>>, AllocError> {
+        let database = Database {
             rt,
             folder,
             path,
@@ -59,8 +72,7 @@ impl<'a> Database<'a> {
             counts,
             followed: 0,
         };
-        database.open()?;
-        Ok(database)
+        Ok(Box::new(rt.alloc(), database)?)
     }
 
     /// Makes durable what was saved in the turn. Until this succeeds, nothing may be told that rests

@@ -43,6 +43,11 @@ impl Fence {
         Fence { owner, turn: 0 }
     }
 
+    /// Returns whose the database is.
+    pub(crate) fn owner(&self) -> &str {
+        self.owner.as_str()
+    }
+
     /// Returns the file that a database has before its first turn.
     pub(crate) fn file(&self, alloc: Global) -> Result<FileText, AllocError> {
         Ok(FileText {

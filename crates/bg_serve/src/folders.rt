@@ -86,7 +86,7 @@ impl<'a> FolderStore<'a> {
     pub(crate) fn find(
         &self,
         name: &str,
-    ) -> io::Result<Option<(Found<ServedKeeper<'a>>, Option<FolderLock>)>> {
+    ) -> io::Result<Option<(Box<Found<ServedKeeper<'a>>>, Option<FolderLock>)>> {
         let path = path_in(self.rt.alloc(), self.folder, name)?;
         let Some(file) = self.match_in(path.as_str())? else {
             return Ok(None);
@@ -97,7 +97,7 @@ impl<'a> FolderStore<'a> {
             None => Some(FolderLock::take(self.rt, path.as_str())?),
         };
         let found = self.found(name, path.as_str(), file, seats)?;
-        Ok(Some((found, lock)))
+        Ok(Some((Box::new(self.rt.alloc(), found)?, lock)))
     }
 
     /// Returns what the operator may have changed of the match of this name; None where there is
@@ -153,6 +153,8 @@ impl<'a> FolderStore<'a> {
         if digest.is_some_and(|digest| digest != digest_of(&key)) {
             return Err(io::Error::from(ErrorKind::InvalidData));
         }
+        let is_hidden = is_hidden(self.rt, path)?;
+        let quiet_minutes = quiet_minutes(self.rt, path)?;
         // Over the folder of a match that has no seats others may play, who know of no database.
         let turn_of = seats.is_some().then_some(name);
         Ok(Found {
@@ -164,8 +166,8 @@ impl<'a> FolderStore<'a> {
             key,
             digest,
             keepers: self.keepers(path, turn_of)?,
-            is_hidden: is_hidden(self.rt, path)?,
-            quiet_minutes: quiet_minutes(self.rt, path)?,
+            is_hidden,
+            quiet_minutes,
         })
     }
 

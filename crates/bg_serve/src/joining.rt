@@ -63,14 +63,14 @@ pub(crate) fn join<'a>(
     folder: &'a str,
     words: &str,
     store: &mut FolderStore<'a>,
-) -> Result<Cluster<'a>, Unjoined> {
+) -> Result<Box<Cluster<'a>>, Unjoined> {
     let alloc = rt.alloc();
     let Some(hosts) = hosts_in(alloc, words.strip_prefix(CLUSTER).unwrap_or(""))? else {
         return Err(Unjoined::NoMembers);
     };
     let gathered = store.gather(TurnSaves::shared(alloc))?;
     let copies = Copies { rt, folder };
-    let mut cluster = Cluster::new(copies, Members::new(rt, hosts), gathered);
+    let mut cluster = Cluster::new(copies, Members::new(rt, hosts), gathered)?;
     cluster.check_owner(words)?;
     let _ = cluster.catch_up()?;
     cluster.remove_others()?;

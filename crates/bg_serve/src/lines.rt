@@ -1,7 +1,7 @@
 //! A connection to a member of an etcd cluster: one question at a time, and its answer.
 
 use bg_etcd::{Exchange, Fault};
-use std::alloc::Global;
+use std::alloc::{AllocError, Global};
 use std::io::ErrorKind;
 use std::net::{TcpStream, ToSocketAddrs};
 use std::time::Duration;
@@ -15,7 +15,7 @@ const MOST_WAITS: u32 = 4;
 /// The answer of a member: its status and its body.
 pub(crate) type Answer = (u16, Vec<u8>);
 
-/// A connection to a member.
+/// A connection to a member. It is large, so it lies in a box.
 #[derive(Drop)]
 pub(crate) struct Line {
     stream: TcpStream,
@@ -28,7 +28,7 @@ pub(crate) struct Line {
 
 impl Line {
     /// Connects to a member.
-    pub(crate) fn open(rt: &HostRuntime, host: &str) -> Result<Line, Fault> {
+    pub(crate) fn open(rt: &HostRuntime, host: &str) -> Result<Box<Line>, Fault> {
         let wait = Duration::from_millis(A_WHILE);
         let mut fault = Fault::Away(ErrorKind::NotFound);
         for address in host.to_socket_addrs(rt)? {
@@ -37,18 +37,23 @@ impl Line {
                     stream.set_nodelay(true)?;
                     stream.set_read_timeout(Some(wait))?;
                     stream.set_write_timeout(Some(wait))?;
-                    let exchange = Exchange::new(rt.alloc());
-                    return Ok(Line {
-                        stream,
-                        exchange,
-                        asked: None,
-                        waits: 0,
-                    });
+                    return Ok(Line::over(rt.alloc(), stream)?);
                 }
                 Err(error) => fault = Fault::Away(error.kind()),
             }
         }
         Err(fault)
+    }
+
+    /// Returns the connection over a stream, on which nothing was asked yet.
+    fn over(alloc: Global, stream: TcpStream) -> Result<Box<Line>, AllocError> {
+        let line = Line {
+            stream,
+            exchange: Exchange::new(alloc),
+            asked: None,
+            waits: 0,
+        };
+        Ok(Box::new(alloc, line)?)
     }
 
     /// Returns whether it waits for the answer to something else.

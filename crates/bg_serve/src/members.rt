@@ -13,7 +13,7 @@ pub(crate) struct Members<'a> {
     hosts: Vec<String>,
     /// The index of the one that is asked.
     at: usize,
-    line: Option<Line>,
+    line: Option<Box<Line>>,
     /// How many members have failed since the last answer.
     failed: usize,
     /// Whether the last question was answered.

@@ -1,5 +1,6 @@
 //! The file of a match that says who may play it: the SHA-256 of the secret of each seat.
 
+use crate::settling::write_through;
 use bg_board::Player;
 use bg_console::path_in;
 use bg_site::{Digest, Seats, digest_of};
@@ -79,14 +80,7 @@ pub(crate) fn replace_seat(
     let path = path_in(rt.alloc(), folder, NAME)?;
     let beside = path_in(rt.alloc(), folder, "seats.new")?;
     let text = seats_text(rt.alloc(), &seats)?;
-    let mut file = OpenOptions::new()
-        .write(true)
-        .create(true)
-        .truncate(true)
-        .mode(OWNER_ALONE)
-        .open(rt, beside.as_str())?;
-    file.write_all(text.as_bytes())?;
-    file.sync_all()?;
+    write_through(rt, beside.as_str(), text.as_bytes())?;
     fs::rename(rt, beside.as_str(), path.as_str())?;
     File::open(rt, folder)?.sync_all()
 }

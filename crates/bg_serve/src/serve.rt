@@ -74,7 +74,7 @@ fn begun<'a>(
     rt: &'a HostRuntime,
     options: &ServeOptions<'a>,
     failures: &'a Failures,
-) -> Result<(Server<'a>, Option<Database<'a>>), Unusable> {
+) -> Result<(Box<Server<'a>>, Option<Box<Database<'a>>>), Unusable> {
     let mut store = FolderStore::new(rt, options.folder, failures)?;
     let sockets = Sockets::bind(rt, options.port)?;
     let database = match options.database {
@@ -89,7 +89,7 @@ fn begun<'a>(
 fn go_on(
     rt: &HostRuntime,
     server: &mut Server<'_>,
-    database: &mut Option<Database<'_>>,
+    database: &mut Option<Box<Database<'_>>>,
     options: ServeOptions<'_>,
     failures: &Failures,
 ) -> Result<Ending, Ending> {

@@ -19,7 +19,7 @@ use std::time::Instant;
 /// The token of the listener; that of a client is one more than its index.
 pub(crate) const LISTENER: Token = Token(0);
 
-/// The server of a folder.
+/// The server of a folder. It is large, so it lies in a box.
 #[derive(Drop)]
 pub struct Server<'a> {
     pub(crate) rt: &'a HostRuntime,
@@ -31,7 +31,7 @@ pub struct Server<'a> {
     pub(crate) poll: Poll,
     pub(crate) events: Events,
     pub(crate) listener: TcpListener,
-    pub(crate) clients: Vec<Option<Client>>,
+    pub(crate) clients: Vec<Option<Box<Client>>>,
     /// The indices of clients that may have more to do.
     pub(crate) again: Vec<usize>,
     /// Those of the clients that were heard in this turn, and are to be told what came of it.
@@ -65,7 +65,7 @@ impl<'a> Server<'a> {
         folder: &'a str,
         port: u16,
         failures: &'a Failures,
-    ) -> io::Result<Server<'a>> {
+    ) -> io::Result<Box<Server<'a>>> {
         let store = FolderStore::new(rt, folder, failures)?;
         let sockets = Sockets::bind(rt, port)?;
         Server::begin_over(rt, sockets, store)
@@ -79,8 +79,9 @@ impl<'a> Server<'a> {
         rt: &'a HostRuntime,
         sockets: Sockets,
         store: FolderStore<'a>,
-    ) -> io::Result<Server<'a>> {
-        let mut server = Server::over(rt, sockets, store, Instant::now(rt)?);
+    ) -> io::Result<Box<Server<'a>>> {
+        let start = Instant::now(rt)?;
+        let mut server = Box::new(rt.alloc(), Server::over(rt, sockets, store, start))?;
         server.open_all()?;
         Ok(server)
     }
@@ -138,7 +139,7 @@ impl<'a> Server<'a> {
         let Some((found, lock)) = found else {
             return Ok(true);
         };
-        if !self.site.open(found) {
+        if !self.site.open(Box::into_inner(found)) {
             return Ok(false);
         }
         if let Some(lock) = lock {
@@ -193,7 +194,7 @@ impl<'a> Server<'a> {
     /// can't be read isn't served any more, since nobody knows which of it is saved.
     pub(crate) fn renew(&mut self, name: &str) {
         let is_there = match self.site.store().find(name) {
-            Ok(Some((found, None))) => self.site.replace(found),
+            Ok(Some((found, None))) => self.site.replace(Box::into_inner(found)),
             _ => false,
         };
         if !is_there {

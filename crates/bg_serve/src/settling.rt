@@ -8,7 +8,7 @@ use crate::seat_files::random_digits;
 use bg_console::path_in;
 use bg_journal::{Change, Error, ErrorCode, FileText, Journal};
 use bg_processes::read_saved;
-use std::alloc::AllocError;
+use std::alloc::{AllocError, Global};
 use std::fs::{File, OpenOptions, Permissions};
 use std::io::{ErrorKind, Write};
 use std::os::unix::fs::{OpenOptionsExt, PermissionsExt};
@@ -146,8 +146,8 @@ fn settle_file(rt: &HostRuntime, folder: &str, file: &FileText) -> io::Result<()
     File::open(rt, above.as_str())?.sync_all()
 }
 
-/// Writes a file, and makes it durable.
-fn write_through(rt: &HostRuntime, path: &str, bytes: &[u8]) -> io::Result<()> {
+/// Writes a file that only its owner reads and writes, and makes it durable.
+pub(crate) fn write_through(rt: &HostRuntime, path: &str, bytes: &[u8]) -> io::Result<()> {
     let mut file = OpenOptions::new()
         .write(true)
         .create(true)
@@ -169,17 +169,21 @@ pub(crate) fn begin(rt: &HostRuntime, folder: &str, path: &str) -> Result<Fence,
         return Err(Unusable::Anothers);
     }
     close_to_others(rt, path)?;
-    let owner = random_digits(rt, 16)?;
+    let fence = Fence::new(random_digits(rt, 16)?);
     let whole = fs::canonicalize(rt, path)?;
-    write_mark(rt, folder, whole.as_str(), owner.as_str())?;
-    let text = owner.as_bytes().to_vec(rt.alloc())?;
-    let name = String::from_str(rt.alloc(), OWNER)?;
-    let fence = Fence::new(owner);
-    journal.write(&[
-        Change::Put(FileText { name, text }),
-        Change::Put(fence.file(rt.alloc())?),
-    ])?;
+    write_mark(rt, folder, whole.as_str(), fence.owner())?;
+    journal.write(&first_changes(rt.alloc(), &fence)?)?;
     Ok(fence)
+}
+
+/// Returns the changes by which a database says whose it is, and that it has no turn yet.
+fn first_changes(alloc: Global, fence: &Fence) -> Result<[Change; 2], AllocError> {
+    let text = fence.owner().as_bytes().to_vec(alloc)?;
+    let name = String::from_str(alloc, OWNER)?;
+    Ok([
+        Change::Put(FileText { name, text }),
+        Change::Put(fence.file(alloc)?),
+    ])
 }
 
 /// Has a database, and its log, read by their owner alone, as saved files are.

@@ -17,7 +17,7 @@ use bg_reports::Ending;
 #[derive(Drop)]
 struct Shared<'a> {
     rt: &'a HostRuntime,
-    cluster: Cluster<'a>,
+    cluster: Box<Cluster<'a>>,
     /// The option that names it.
     words: &'a str,
     is_away: bool,
@@ -70,7 +70,7 @@ fn joined<'a>(
     folder: &'a str,
     words: &str,
     failures: &'a Failures,
-) -> Result<(Cluster<'a>, FolderStore<'a>), Unjoined> {
+) -> Result<(Box<Cluster<'a>>, FolderStore<'a>), Unjoined> {
     let mut store = FolderStore::new(rt, folder, failures)?;
     let cluster = join(rt, folder, words, &mut store)?;
     Ok((cluster, store))

@@ -42,7 +42,7 @@ impl Service for NotNow {
 #[derive(Drop)]
 pub(crate) struct Visitor {
     stream: TcpStream,
-    connection: Connection,
+    connection: Box<Connection>,
     /// How often it was looked at; `MOST_LOOKS` once it is to go.
     looks: u32,
 }
@@ -82,10 +82,10 @@ impl<'a> Server<'a> {
 
     /// Notes that somebody has come.
     fn visit(&mut self, stream: TcpStream) -> io::Result<()> {
-        let keys = RandomState::new(self.rt)?;
+        let (alloc, keys) = (self.rt.alloc(), RandomState::new(self.rt)?);
         self.visitors.push(Visitor {
             stream,
-            connection: Connection::new(self.rt.alloc(), keys, config()),
+            connection: Box::new(alloc, Connection::new(alloc, keys, config()))?,
             looks: 0,
         })?;
         Ok(())

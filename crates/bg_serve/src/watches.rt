@@ -3,7 +3,7 @@
 use bg_etcd::{Event, Exchange, Fault, News, news_in, watch_text};
 use mio::net::TcpStream;
 use mio::{Interest, Registry, Token};
-use std::alloc::Global;
+use std::alloc::{AllocError, Global};
 use std::io::ErrorKind;
 use std::net::{SocketAddr, ToSocketAddrs};
 
@@ -13,7 +13,7 @@ pub(crate) const WATCH: Token = Token(usize::MAX);
 /// The most reads in one turn.
 const MOST_READS: u32 = 4096;
 
-/// A watch.
+/// A watch. It is large, so it lies in a box.
 #[derive(Drop)]
 pub(crate) struct Watch {
     alloc: Global,
@@ -41,17 +41,27 @@ impl Watch {
         registry: &Registry,
         (host, round): (&str, usize),
         revision: u64,
-    ) -> Result<Watch, Fault> {
+    ) -> Result<Box<Watch>, Fault> {
         let mut stream = TcpStream::connect(rt, address_of(rt, host, round)?)?;
         registry.register(&mut stream, WATCH, Interest::READABLE | Interest::WRITABLE)?;
         let mut exchange = Exchange::new(rt.alloc());
         let text = watch_text(rt.alloc(), revision)?;
         exchange.ask(host, "/v3/watch", text.as_str())?;
-        Ok(Watch {
-            alloc: rt.alloc(),
+        Ok(Watch::over(rt.alloc(), stream, exchange)?)
+    }
+
+    /// Returns the watch over a stream, on which it was asked for.
+    fn over(
+        alloc: Global,
+        stream: TcpStream,
+        exchange: Exchange,
+    ) -> Result<Box<Watch>, AllocError> {
+        let watch = Watch {
+            alloc,
             stream,
             exchange,
-        })
+        };
+        Ok(Box::new(alloc, watch)?)
     }
 
     /// Returns what has come.
