@@ -19,6 +19,8 @@ fn check_growths(rt: &(impl Abort + AllocGlobal)) {
     play(rt, &mut hosted, 1);
     let mut again = begun_at_last(rt, &shelf);
     play(rt, &mut again, 4);
+    drop(again);
+    drop(hosted);
     check_no_growth_is_left(rt);
 }
 

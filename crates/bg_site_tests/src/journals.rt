@@ -1,21 +1,34 @@
 //! Journals of files, over files of their own in the folder of the test.
 
 use bg_journal::{Change, Error, FileText, Journal, Newest, Swap, newest_of};
-use std::alloc::Global;
+use std::alloc::{AllocError, Global};
 use std::test::Fail;
 use std::{fs, io};
 
 /// The change by which a file has a text.
-fn put(alloc: Global, name: &str, text: &str) -> io::Result<Change> {
+fn put(alloc: Global, name: &str, text: &str) -> Result<Change, AllocError> {
     Ok(Change::Put(FileText {
         name: String::from_str(alloc, name)?,
         text: text.as_bytes().to_vec(alloc)?,
     }))
 }
 
-/// The change by which the files of a folder are gone.
-fn remove(alloc: Global, folder: &str) -> io::Result<Change> {
-    Ok(Change::Remove(String::from_str(alloc, folder)?))
+/// The change that a word stands for: `NAME=TEXT` gives a file a text, and the name of a folder
+/// alone removes its files.
+fn change(alloc: Global, word: &str) -> Result<Change, AllocError> {
+    match word.split_once('=') {
+        Some((name, text)) => put(alloc, name, text),
+        None => Ok(Change::Remove(String::from_str(alloc, word)?)),
+    }
+}
+
+/// The changes that words stand for, with blanks between them.
+fn changes(alloc: Global, words: &str) -> Result<Vec<Change>, AllocError> {
+    let mut changes = Vec::new(alloc);
+    for word in words.split(' ') {
+        changes.push(change(alloc, word)?)?;
+    }
+    Ok(changes)
 }
 
 /// Removes a journal, if there is one.
@@ -26,10 +39,10 @@ fn remove_files(rt: &HostRuntime, path: &str) -> io::Result<()> {
     Ok(())
 }
 
-/// Opens a journal, writes changes, and returns its files.
-fn files_after(rt: &HostRuntime, path: &str, changes: &[Change]) -> Result<String, Error> {
+/// Opens a journal, writes the changes that words stand for, and returns its files.
+fn files_after(rt: &HostRuntime, path: &str, words: &str) -> Result<String, Error> {
     let mut journal = Journal::open(rt, path)?;
-    journal.write(changes)?;
+    journal.write(&changes(rt.alloc(), words)?)?;
     files_of(rt, &mut journal)
 }
 
@@ -45,35 +58,27 @@ fn files_of(rt: &HostRuntime, journal: &mut Journal) -> Result<String, Error> {
     Ok(out)
 }
 
+/// Of a new journal: the changes that are written, and the files that it has then.
+const WRITTEN: [(&str, &str); 2] = [
+    ("b/1=one a/1=two", "a/1=two;b/1=one;"),
+    ("b/1=three", "a/1=two;b/1=three;"),
+];
+
 #[test]
 fn a_journal_has_the_newest_texts_also_when_opened_anew(rt: HostRuntime) -> Result<(), Fail> {
-    let alloc = rt.alloc();
     remove_files(&rt, "newest.db")?;
-    let changes = [put(alloc, "b/1", "one")?, put(alloc, "a/1", "two")?];
-    let files = files_after(&rt, "newest.db", &changes)?;
-    assert!(rt; files.as_str() == "a/1=two;b/1=one;", "as it was written");
-    let changes = [put(alloc, "b/1", "three")?];
-    let files = files_after(&rt, "newest.db", &changes)?;
-    assert!(rt;
-        files.as_str() == "a/1=two;b/1=three;",
-        "with the newer text"
-    );
+    for (words, wanted) in WRITTEN {
+        let files = files_after(&rt, "newest.db", words)?;
+        assert!(rt; files.as_str() == wanted, "after {words}");
+    }
     Ok(())
 }
 
 #[test]
 fn the_files_of_one_folder_are_removed(rt: HostRuntime) -> Result<(), Fail> {
-    let alloc = rt.alloc();
     remove_files(&rt, "removed.db")?;
-    let changes = [
-        put(alloc, "a/1", "gone")?,
-        put(alloc, "a0/1", "stays")?,
-        put(alloc, "aa/1", "stays")?,
-        put(alloc, "a", "stays")?,
-        remove(alloc, "a")?,
-        put(alloc, "a/2", "new")?,
-    ];
-    let files = files_after(&rt, "removed.db", &changes)?;
+    let words = "a/1=gone a0/1=stays aa/1=stays a=stays a a/2=new";
+    let files = files_after(&rt, "removed.db", words)?;
     assert!(rt;
         files.as_str() == "a=stays;a/2=new;a0/1=stays;aa/1=stays;",
         "the others stay"
@@ -81,13 +86,13 @@ fn the_files_of_one_folder_are_removed(rt: HostRuntime) -> Result<(), Fail> {
     Ok(())
 }
 
-/// Opens a journal, writes a change behind the text `before` of a file, and returns whether that was
+/// Opens a journal, writes changes behind the text `before` of a file, and returns whether that was
 /// so, and which files there are.
 fn follow(
     rt: &HostRuntime,
     before: &str,
     after: &str,
-    change: Change,
+    words: &str,
 ) -> Result<(bool, String), Error> {
     let mut journal = Journal::open(rt, "followed.db")?;
     let swap = Swap {
@@ -95,43 +100,62 @@ fn follow(
         before: before.as_bytes(),
         after: after.as_bytes(),
     };
-    let follows = journal.write_after(swap, &[change])?;
+    let follows = journal.write_after(swap, &changes(rt.alloc(), words)?)?;
     Ok((follows, files_of(rt, &mut journal)?))
 }
+
+/// The text of the file that a write follows, the text that it gives that file, the changes, whether
+/// they are written, and the files of the journal then.
+const FOLLOWING: [(&str, &str, &str, bool, &str); 5] = [
+    ("mine 0", "mine 1", "a/1=one", true, ".turn=mine 1;a/1=one;"),
+    (
+        "mine 0",
+        "mine 1",
+        "a/1=late",
+        false,
+        ".turn=mine 1;a/1=one;",
+    ),
+    (
+        "mine 2",
+        "mine 3",
+        "a/1=early",
+        false,
+        ".turn=mine 1;a/1=one;",
+    ),
+    (
+        "other 1",
+        "other 2",
+        "a/1=else",
+        false,
+        ".turn=mine 1;a/1=one;",
+    ),
+    ("mine 1", "mine 2", "a/1=two", true, ".turn=mine 2;a/1=two;"),
+];
 
 #[test]
 fn a_write_follows_the_newest_or_changes_nothing(rt: HostRuntime) -> Result<(), Fail> {
     remove_files(&rt, "followed.db")?;
-    let first = [put(rt.alloc(), ".turn", "mine 0")?];
-    let _ = files_after(&rt, "followed.db", &first)?;
-    let rows = [
-        ("mine 0", "mine 1", "one", true, ".turn=mine 1;a/1=one;"),
-        ("mine 0", "mine 1", "late", false, ".turn=mine 1;a/1=one;"),
-        ("mine 2", "mine 3", "early", false, ".turn=mine 1;a/1=one;"),
-        ("other 1", "other 2", "else", false, ".turn=mine 1;a/1=one;"),
-        ("mine 1", "mine 2", "two", true, ".turn=mine 2;a/1=two;"),
-    ];
-    for (before, after, text, wanted, files) in rows {
-        let change = put(rt.alloc(), "a/1", text)?;
-        let (follows, found) = follow(&rt, before, after, change)?;
-        assert!(rt; follows == wanted, "{text}, after {before}");
-        assert!(rt; found.as_str() == files, "{text}, after {before}: {found}");
+    begin_turns(&rt)?;
+    for (before, after, words, wanted, files) in FOLLOWING {
+        let (follows, found) = follow(&rt, before, after, words)?;
+        assert!(rt; follows == wanted, "{words}, after {before}");
+        assert!(rt; found.as_str() == files, "{words}, after {before}: {found}");
     }
     Ok(())
 }
 
+/// Writes the text that the first write is to follow.
+fn begin_turns(rt: &HostRuntime) -> Result<(), Error> {
+    let mut journal = Journal::open(rt, "followed.db")?;
+    journal.write(&[put(rt.alloc(), ".turn", "mine 0")?])
+}
+
 #[test]
 fn the_last_change_of_a_file_decides(rt: HostRuntime) -> io::Result<()> {
-    let alloc = rt.alloc();
-    let changes = [
-        put(alloc, "a/1", "one")?,
-        put(alloc, "a/2", "two")?,
-        put(alloc, "a/1", "three")?,
-        remove(alloc, "b")?,
-        put(alloc, "b/1", "four")?,
-        put(alloc, "c/1", "five")?,
-        remove(alloc, "c")?,
-    ];
+    let changes = changes(
+        rt.alloc(),
+        "a/1=one a/2=two a/1=three b b/1=four c/1=five c",
+    )?;
     let rows = [
         ("a/1", Newest::Text(b"three".as_slice())),
         ("a/2", Newest::Text(b"two".as_slice())),

@@ -180,11 +180,17 @@ fn orders_of_matches(rt: HostRuntime) {
 }
 
 fn check_order(rt: &(impl AllocGlobal + Abort + RandomSource), row: &str) {
-    let (body, rest) = row.split_once(" > ").unwrap_or(("", ""));
-    let (status, words) = rest.split_once(" > ").unwrap_or(("", ""));
+    let (body, status, words) = parts_of(row).expect(rt, "three parts");
     let answer = answer_to(rt, lasting_site(rt), order(rt, body));
-    let is_right = answer.contains(status) && answer.contains(words) && !words.is_empty();
+    let is_right = answer.contains(status) && answer.contains(words);
     assert!(rt; is_right, "{row} came to {answer}");
+}
+
+/// The three parts of a row.
+fn parts_of(row: &str) -> Option<(&str, &str, &str)> {
+    let (body, rest) = row.split_once(" > ")?;
+    let (status, words) = rest.split_once(" > ")?;
+    Some((body, status, words))
 }
 
 /// Keys of one order after the other, and how many matches there are then.

@@ -34,6 +34,7 @@ fn hosted_matches(rt: HostRuntime) -> Result<(), Fail> {
     let acted = hosted.act(Player::X, 1, Action::Roll);
     assert!(rt; acted == Acted::OtherEntry);
     // end
+    drop(hosted);
     Ok(())
 }
 
@@ -136,6 +137,8 @@ fn sites(rt: HostRuntime) -> Result<(), Fail> {
     let mut connection = Connection::new(alloc, keys, Config::default());
     connection.advance(&mut site);
     // end
+    drop(connection);
+    drop(site);
     Ok(())
 }
 
