@@ -4,6 +4,7 @@ mod requests;
 use crate::command_lines::check_refused;
 use bg_options::{Request, RequestFault, command_line};
 use bg_system::NameFault;
+use clap::ArgMatches;
 use clap::error::ErrorKind;
 use requests::{is_between_processes, is_converted, is_in_one_process, is_of_files, is_shown};
 use std::test::Fail;
@@ -130,13 +131,26 @@ const WORDS: [&[&str]; 36] = [
     &["dice", "--secret", "s"],
 ];
 
+/// What the words of a command line, with the program's name, were parsed to. It is large, so it lies
+/// in a box.
+fn matches_of<'a>(rt: &impl AllocGlobal, words: &[&'a str]) -> Result<Box<ArgMatches<'a>>, Fail> {
+    let line = command_line(rt.alloc(), words.get(1).copied())?;
+    let matches = line.try_get_matches_from(words)?;
+    Ok(Box::new(rt.alloc(), matches)?)
+}
+
+/// Why such words are refused, if they are.
+fn fault_of(rt: &impl AllocGlobal, words: &[&str]) -> Result<Option<RequestFault>, Fail> {
+    let matches = matches_of(rt, words)?;
+    Ok(Request::read(&matches).err())
+}
+
 /// Whether the words of this row ask for what they should.
 fn asks(rt: &impl AllocGlobal, row: usize, words: &[&str]) -> Result<bool, Fail> {
     let mut line = Vec::new(rt.alloc());
     line.push("bg_relay")?;
     line.extend_from_slice(words)?;
-    let first = words.first().copied();
-    let matches = command_line(rt.alloc(), first)?.try_get_matches_from(line.as_slice())?;
+    let matches = matches_of(rt, &line)?;
     Ok(match Request::read(&matches) {
         Ok(request) => {
             is_of_files(row, &request)
@@ -161,10 +175,7 @@ fn words_of_each_command(rt: HostRuntime) -> Result<(), Fail> {
 #[test]
 fn misplaced_files(rt: HostRuntime) -> Result<(), Fail> {
     for name in ["judge", "import", "export", "page", "picture"] {
-        let words = ["bg_relay", name, "file"];
-        let line = command_line(rt.alloc(), Some(name))?;
-        let matches = line.try_get_matches_from(words.as_slice())?;
-        let fault = Request::read(&matches).err();
+        let fault = fault_of(&rt, &["bg_relay", name, "file"])?;
         assert!(rt; fault == Some(RequestFault::MisplacedFile(name)), "{name}");
     }
     Ok(())
@@ -183,9 +194,7 @@ fn batches_that_are_refused(rt: HostRuntime) -> Result<(), Fail> {
             headers,
         ),
     ] {
-        let line = command_line(rt.alloc(), words.get(1).copied())?;
-        let matches = line.try_get_matches_from(words)?;
-        assert!(rt; Request::read(&matches).err() == wanted, "{wanted:?}");
+        assert!(rt; fault_of(&rt, words)? == wanted, "{wanted:?}");
     }
     Ok(())
 }
@@ -200,10 +209,7 @@ fn headers_that_are_refused(rt: HostRuntime) -> Result<(), Fail> {
         ("event", "--event="),
         ("place", "--place="),
     ] {
-        let words = ["bg_relay", "export", flag];
-        let line = command_line(rt.alloc(), Some("export"))?;
-        let matches = line.try_get_matches_from(words.as_slice())?;
-        let fault = Request::read(&matches).err();
+        let fault = fault_of(&rt, &["bg_relay", "export", flag])?;
         let wanted = Some(RequestFault::Name(option, NameFault::Length));
         assert!(rt; fault == wanted, "{option}");
     }
@@ -236,9 +242,7 @@ fn names_that_are_refused(rt: HostRuntime) -> Result<(), Fail> {
         let words = [
             "bg_relay", "new", "--length", "1", "--port", "4000", "--dir", "d", flag,
         ];
-        let line = command_line(rt.alloc(), Some("new"))?;
-        let matches = line.try_get_matches_from(words.as_slice())?;
-        let fault = Request::read(&matches).err();
+        let fault = fault_of(&rt, &words)?;
         assert!(rt; fault == Some(RequestFault::Name(option, why)), "{flag}");
         let shown = format!(in rt.alloc(); "{}", RequestFault::Name(option, why))?;
         assert!(rt; shown.as_str() == said, "{shown}");

@@ -11,13 +11,20 @@ pub(crate) fn check_refused(
     kind: ErrorKind,
     on_stderr: bool,
 ) -> Result<(), Fail> {
-    match command_line(rt.alloc(), words.get(1).copied())?.try_get_matches_from(words) {
+    let refused = refusal(rt, words.get(1).copied(), words)?;
+    assert!(rt; refused == (kind, on_stderr), "{words:?}");
+    Ok(())
+}
+
+/// How the command line that help is given of refuses words, and whether that is an error.
+fn refusal(
+    rt: &impl AllocGlobal,
+    asked: Option<&str>,
+    words: &[&str],
+) -> Result<(ErrorKind, bool), Fail> {
+    match command_line(rt.alloc(), asked)?.try_get_matches_from(words) {
         Ok(_) => Err(Fail::from("accepted")),
-        Err(error) => {
-            assert!(rt; error.kind() == kind);
-            assert!(rt; error.use_stderr() == on_stderr);
-            Ok(())
-        }
+        Err(error) => Ok((error.kind(), error.use_stderr())),
     }
 }
 
@@ -27,10 +34,8 @@ fn each_name_has_its_command(rt: HostRuntime) -> Result<(), Fail> {
     for (name, _) in TASKS {
         let words = ["bg_relay", name, "--help"];
         check_refused(&rt, &words, ErrorKind::DisplayHelp, false)?;
-        match command_line(rt.alloc(), None)?.try_get_matches_from(words.as_slice()) {
-            Ok(_) => return Err(Fail::from("accepted")),
-            Err(error) => assert!(rt; error.kind() == ErrorKind::DisplayHelp, "{name}"),
-        }
+        let (kind, _) = refusal(&rt, None, &words)?;
+        assert!(rt; kind == ErrorKind::DisplayHelp, "{name}");
     }
     Ok(())
 }
