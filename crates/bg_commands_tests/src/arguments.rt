@@ -133,7 +133,10 @@ const WORDS: [&[&str]; 36] = [
 
 /// What the words of a command line, with the program's name, were parsed to. It is large, so it lies
 /// in a box.
-fn matches_of<'a>(rt: &impl AllocGlobal, words: &[&'a str]) -> Result<Box<ArgMatches<'a>>, Fail> {
+fn matches_of<'a>(
+    rt: &impl AllocGlobal,
+    words: &'a [&'a str],
+) -> Result<Box<ArgMatches<'a>>, Fail> {
     let line = command_line(rt.alloc(), words.get(1).copied())?;
     let matches = line.try_get_matches_from(words)?;
     Ok(Box::new(rt.alloc(), matches)?)
