@@ -92,10 +92,10 @@ pub fn saved_texts_are_prefix_free()
     ensures { ArePrefixFree IsSavedText }
 {}
 
-/// A writer with room for the encodings of some hundred entries.
-type Chunk = Writer<1024>;
+/// A writer with room for the encodings of some twenty entries.
+type Chunk = Writer<256>;
 
-/// Appends the encodings of all entries, for which there is room, some hundred at a time.
+/// Appends the encodings of all entries, for which there is room, some twenty at a time.
 fn push_entries(text: &mut Vec<u8>, log: &Record)
     requires room { length text.old.items + length (entries_bytes log.now.entries) ≤ vec_capacity text.old }
     ensures { text.new.items ≡ text.old.items ++ entries_bytes log.now.entries }
@@ -121,7 +121,7 @@ fn append(text: &mut Vec<u8>, bytes: &[u8])
 fn put_index(chunk: &mut Chunk, log: &Record, index: Number)
     requires below { index < most_entries }
     requires in_range { AllByRecursion IsEntry log.now.entries }
-    requires room { length chunk.old + 10 ≤ 1024 }
+    requires room { length chunk.old + 10 ≤ 256 }
     ensures text { chunk.new ≡ chunk.old ++ bytes_at log.now.entries index }
     ensures len { length chunk.new ≤ length chunk.old + 10 }
 {
@@ -134,7 +134,7 @@ fn put_index(chunk: &mut Chunk, log: &Record, index: Number)
 fn append_full(text: &mut Vec<u8>, chunk: &mut Chunk)
     requires { length (text.old.items ++ chunk.old) ≤ vec_capacity text.old }
     ensures same { text.new.items ++ chunk.new ≡ text.old.items ++ chunk.old }
-    ensures room { length chunk.new + 10 ≤ 1024 }
+    ensures room { length chunk.new + 10 ≤ 256 }
     ensures capacity { vec_capacity text.old ≤ vec_capacity text.new }
 {
     if !chunk.has_room(LONGEST_ENTRY) {
