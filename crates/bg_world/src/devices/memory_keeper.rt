@@ -70,7 +70,6 @@ impl MemoryKeeper {
 /// Writes a text as the plan says of this write.
 fn write_by(
     tear: Option<Tear>,
-    alloc: Global,
     texts: &mut SlotTexts,
     slot: Slot,
     bytes: &[u8],
@@ -79,13 +78,13 @@ fn write_by(
 {
     match tear {
         None => {
-            texts.set(slot, copy_of(alloc, bytes)?);
+            texts.write(slot, bytes)?;
             Ok(())
         }
         Some(tear) => {
             if let Some(cut) = tear.cut {
                 let cut = (cut as usize).min(bytes.len());
-                texts.set(slot, copy_of(alloc, &bytes[..cut])?);
+                texts.write(slot, &bytes[..cut])?;
             }
             Err(DeviceFault::Failed)
         }
@@ -131,7 +130,7 @@ impl Keeper for MemoryKeeper {
         self.writes = self.writes.marked();
         self.asked_writes = self.asked_writes.saturating_add(1);
         let tear = find_tear(&self.tears, self.party, self.asked_writes);
-        self.written = write_by(tear, self.alloc, &mut self.texts, slot, bytes);
+        self.written = write_by(tear, &mut self.texts, slot, bytes);
         self.faults = count_failed(&self.faults, &self.written);
         self.written
     }

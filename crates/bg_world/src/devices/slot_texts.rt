@@ -1,10 +1,10 @@
 //! Two slots in memory.
-ghost use Rattle.std.specs.Prelude.{◌≡◌};
+ghost use Rattle.std.specs.Prelude.{◌≡◌, ◌≢◌, [], OnErr, OnOk};
 ghost use Rattle.bg_wire.specs.Saved.SlotLaws.{bytes_in, with_slot};
 ghost use Rattle.bg_world.specs.Protocol.Slots.{empty_slots};
 
 use bg_wire::Slot;
-use std::alloc::Global;
+use std::alloc::{AllocError, Global};
 use std::marker::Model;
 
 /// The bytes of two slots.
@@ -43,13 +43,25 @@ impl SlotTexts {
         }
     }
 
-    /// Puts a text into a slot.
-    pub(crate) fn set(&mut self, slot: Slot, text: Vec<u8>)
-        ensures { self.new ≡ with_slot self.old slot text.items }
+    /// Puts these bytes into a slot, in the place of those that it has. Where memory runs out,
+    /// nothing changes; none is needed for no bytes.
+    pub(crate) fn write(&mut self, slot: Slot, bytes: &[u8]) -> Result<(), AllocError>
+        ensures ok { OnOk result (self.new ≡ with_slot self.old slot bytes.now) }
+        ensures err { OnErr result ((bytes.now ≢ []) × (self.new ≡ self.old)) }
     {
         match slot {
-            Slot::Zero => self.zero = text,
-            Slot::One => self.one = text,
+            Slot::Zero => overwrite(&mut self.zero, bytes),
+            Slot::One => overwrite(&mut self.one, bytes),
         }
     }
+}
+
+/// Puts these bytes in the place of others, and takes no memory where there is room.
+fn overwrite(text: &mut Vec<u8>, bytes: &[u8]) -> Result<(), AllocError>
+    ensures ok { OnOk result (text.new.items ≡ bytes.now) }
+    ensures err { OnErr result ((bytes.now ≢ []) × (text.new.items ≡ text.old.items)) }
+{
+    text.reserve(bytes.len().saturating_sub(text.len()))?;
+    text.clear();
+    text.extend_from_slice(bytes)
 }
