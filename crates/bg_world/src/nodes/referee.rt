@@ -100,12 +100,21 @@ impl RefereeNode {
         ensures under_way { self.new.under_way ≡ under_way_after self.old.under_way result }
         ensures dues { RefereeNodeDues (referee_node_of self.old) word result (referee_node_of self.new) }
     {
+        let mut outcome = Outcome::Down;
+        self.due_into(word, &mut outcome);
+        outcome
+    }
+
+    /// Opens a game or passes a turn, with a place for the outcome.
+    pub(crate) fn due_into(&mut self, word: u32, outcome: &mut Outcome)
+        ensures under_way { self.new.under_way ≡ under_way_after self.old.under_way outcome.new }
+        ensures dues { RefereeNodeDues (referee_node_of self.old) word outcome.new (referee_node_of self.new) }
+    {
         match &mut self.core {
-            None => Outcome::Down,
+            None => *outcome = Outcome::Down,
             Some(core) => {
-                let outcome = Outcome::Due(core.due(word));
-                end_where_changed(&mut self.under_way, &outcome);
-                outcome
+                *outcome = Outcome::Due(core.due(word));
+                end_where_changed(&mut self.under_way, outcome);
             }
         }
     }
@@ -202,7 +211,9 @@ impl RefereeNode {
             return None;
         }
         self.under_way = None;
-        Some(end_save(&mut self.core, number, written))
+        let mut outcome = Outcome::Down;
+        end_save(&mut self.core, number, written, &mut outcome);
+        Some(outcome)
     }
 
     /// Saves what the referee holds. It is down where the write fails. A save that was under way is
@@ -212,8 +223,19 @@ impl RefereeNode {
         ensures saves { RefereeNodeSaves K.is_honest (keeper_view K.Keeper keeper.old) (referee_node_of self.old) result
             (keeper_view K.Keeper keeper.new) (referee_node_of self.new) }
     {
+        let mut outcome = Outcome::Down;
+        self.save_into(keeper, &mut outcome);
+        outcome
+    }
+
+    /// Saves what the referee holds, with a place for the outcome.
+    pub(crate) fn save_into<K: Keeper>(&mut self, keeper: &mut K, outcome: &mut Outcome)
+        ensures under_way { self.new.under_way ≡ None }
+        ensures saves { RefereeNodeSaves K.is_honest (keeper_view K.Keeper keeper.old) (referee_node_of self.old)
+            outcome.new (keeper_view K.Keeper keeper.new) (referee_node_of self.new) }
+    {
         self.under_way = None;
-        save_party(keeper, &mut self.core)
+        save_party(keeper, &mut self.core, outcome);
     }
 
     /// Discards what the referee holds, and restarts it from what its slots restore.

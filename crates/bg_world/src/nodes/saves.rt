@@ -112,44 +112,52 @@ pub(crate) fn begin_save<C: Saves>(core: &Option<C>) -> Result<Save, Outcome>
     }
 }
 
-/// Ends the next save of a party that is up, whose write had this answer. It is down where the
-/// write failed.
+/// Ends the next save of a party that is up, whose write had this answer, with a place for the
+/// outcome. It is down where the write failed.
 pub(crate) fn end_save<C: Saves + Drop>(
     core: &mut Option<C>,
     number: u32,
     written: Result<(), DeviceFault>,
-) -> Outcome
+    outcome: &mut Outcome,
+)
     requires { next_of C.parts core.old ≡ Some number }
-    ensures { EndsSave C.after_save core.old number written result core.new }
+    ensures { EndsSave C.after_save core.old number written outcome.new core.new }
 {
     let Some(up) = core else {
-        return Outcome::Down;
+        *outcome = Outcome::Down;
+        return;
     };
     match written {
         Ok(()) => {
             up.mark_written(number);
-            Outcome::Saved(number)
+            *outcome = Outcome::Saved(number);
         }
         Err(_) => {
             *core = None;
-            Outcome::SaveFault
+            *outcome = Outcome::SaveFault;
         }
     }
 }
 
-/// Saves what a party holds. It is down where the write fails.
+/// Saves what a party holds, with a place for the outcome. It is down where the write fails.
 pub(crate) fn save_party<C: Saves + Drop, K: Keeper>(
     keeper: &mut K,
     core: &mut Option<C>,
-) -> Outcome
+    outcome: &mut Outcome,
+)
     ensures { SaveCallsAt C.parts C.after_save K.is_honest (keeper_view K.Keeper keeper.old) core.old
-        result (keeper_view K.Keeper keeper.new) core.new }
+        outcome.new (keeper_view K.Keeper keeper.new) core.new }
 {
-    match begin_save(core) {
-        Err(outcome) => outcome,
-        Ok(save) => {
-            let written = write_slot(keeper, save.slot, save.text.as_slice());
-            end_save(core, save.number, written)
+    let Some(up) = core else {
+        *outcome = Outcome::Down;
+        return;
+    };
+    match up.next_save() {
+        Ok((slot, number, text)) => {
+            let written = write_slot(keeper, slot, text.as_slice());
+            end_save(core, number, written, outcome);
         }
+        Err(SaveRefusal::SavesSpent) => *outcome = Outcome::SavesSpent,
+        Err(SaveRefusal::Memory) => *outcome = Outcome::Memory,
     }
 }

@@ -122,12 +122,21 @@ impl SeatNode {
         ensures under_way { self.new.under_way ≡ under_way_after self.old.under_way result }
         ensures chooses { SeatNodeChooses (seat_node_of self.old) action result (seat_node_of self.new) }
     {
+        let mut outcome = Outcome::Down;
+        self.choose_into(action, &mut outcome);
+        outcome
+    }
+
+    /// Claims the action that its player chooses, with a place for the outcome.
+    pub(crate) fn choose_into(&mut self, action: Action, outcome: &mut Outcome)
+        ensures under_way { self.new.under_way ≡ under_way_after self.old.under_way outcome.new }
+        ensures chooses { SeatNodeChooses (seat_node_of self.old) action outcome.new (seat_node_of self.new) }
+    {
         match &mut self.core {
-            None => Outcome::Down,
+            None => *outcome = Outcome::Down,
             Some(core) => {
-                let outcome = Outcome::Chose(core.choose(action));
-                end_where_changed(&mut self.under_way, &outcome);
-                outcome
+                *outcome = Outcome::Chose(core.choose(action));
+                end_where_changed(&mut self.under_way, outcome);
             }
         }
     }
@@ -218,7 +227,9 @@ impl SeatNode {
             return None;
         }
         self.under_way = None;
-        Some(end_save(&mut self.core, number, written))
+        let mut outcome = Outcome::Down;
+        end_save(&mut self.core, number, written, &mut outcome);
+        Some(outcome)
     }
 
     /// Saves what the seat holds. It is down where the write fails. A save that was under way is so
@@ -228,8 +239,19 @@ impl SeatNode {
         ensures saves { SeatNodeSaves K.is_honest (keeper_view K.Keeper keeper.old) (seat_node_of self.old) result
             (keeper_view K.Keeper keeper.new) (seat_node_of self.new) }
     {
+        let mut outcome = Outcome::Down;
+        self.save_into(keeper, &mut outcome);
+        outcome
+    }
+
+    /// Saves what the seat holds, with a place for the outcome.
+    pub(crate) fn save_into<K: Keeper>(&mut self, keeper: &mut K, outcome: &mut Outcome)
+        ensures under_way { self.new.under_way ≡ None }
+        ensures saves { SeatNodeSaves K.is_honest (keeper_view K.Keeper keeper.old) (seat_node_of self.old)
+            outcome.new (keeper_view K.Keeper keeper.new) (seat_node_of self.new) }
+    {
         self.under_way = None;
-        save_party(keeper, &mut self.core)
+        save_party(keeper, &mut self.core, outcome);
     }
 
     /// Discards what the seat holds, and restarts it from what its slots restore.

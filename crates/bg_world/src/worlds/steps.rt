@@ -63,7 +63,7 @@ impl<L: Link, K: Keeper> World<L, K> {
         ensures others { OtherSavesStay roles.Referee self.old self.new }
         ensures calls { DueCalls (view_of L.Link K.Keeper self.old) word outcome.new (view_of L.Link K.Keeper self.new) }
     {
-        *outcome = self.referee.due(word);
+        self.referee.due_into(word, outcome);
     }
 
     /// Claims what a player chooses, at the player's seat.
@@ -73,8 +73,8 @@ impl<L: Link, K: Keeper> World<L, K> {
             outcome.new (view_of L.Link K.Keeper self.new) }
     {
         match player {
-            Player::X => *outcome = self.x.choose(action),
-            Player::O => *outcome = self.o.choose(action),
+            Player::X => self.x.choose_into(action, outcome),
+            Player::O => self.o.choose_into(action, outcome),
         }
     }
 
@@ -211,7 +211,7 @@ impl<L: Link, K: Keeper> World<L, K> {
             outcome.new (view_of L.Link K.Keeper self.new) }
     {
         match Role::of(party) {
-            Role::Referee => *outcome = self.referee.save(&mut self.keepers.referee),
+            Role::Referee => self.referee.save_into(&mut self.keepers.referee, outcome),
             Role::Seat(player) => self.save_seat(player, outcome),
             Role::Watcher(_) => *outcome = Outcome::NoSuchParty,
         }
@@ -223,8 +223,8 @@ impl<L: Link, K: Keeper> World<L, K> {
             outcome.new (view_of L.Link K.Keeper self.new) }
     {
         match player {
-            Player::X => *outcome = self.x.save(&mut self.keepers.x),
-            Player::O => *outcome = self.o.save(&mut self.keepers.o),
+            Player::X => self.x.save_into(&mut self.keepers.x, outcome),
+            Player::O => self.o.save_into(&mut self.keepers.o, outcome),
         }
     }
 
