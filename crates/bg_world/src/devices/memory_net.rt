@@ -1,9 +1,9 @@
 //! A link in memory.
-ghost use Rattle.std.specs.Prelude.{◌≡◌, [], length, min, Ok, None};
+ghost use Rattle.std.specs.Prelude.{◌≡◌, ◌≤◌, [], length, min, Ok, None, Some, IfSome, MatchOption};
 ghost use Rattle.bg_world.specs.Devices.Handed.{count_to, handed};
 ghost use Rattle.bg_world.specs.Devices.Plan.{SendsBy};
 
-use crate::devices::notes::{count_failed, note_bytes};
+use crate::devices::notes::count_failed;
 use crate::devices::plans::find_failure;
 use crate::devices::sent_datagrams::SentDatagrams;
 use crate::{DeviceFault, FailSend, Link, Taken};
@@ -87,17 +87,25 @@ fn send_by(
 }
 
 /// Returns the bytes that the pick names among the datagrams to the party.
-fn hand_over(sent: &SentDatagrams, party: u8, pick: u32) -> Option<ArrayVec<u8, 256>>
-    ensures { result ≡ handed sent.now party pick }
+fn named(sent: &SentDatagrams, party: u8, pick: u32) -> Option<&[u8]>
+    ensures handed { MatchOption result (handed sent.now party pick ≡ None)
+        (λ text. handed sent.now party pick ≡ Some (record { items = text.now })) }
+    ensures few { IfSome result (λ text. length text.now ≤ 128) }
+{
+    if pick == GARBLED {
+        return Some(b"\0".as_slice());
+    }
+    sent.get(party, pick)
+}
+
+/// Returns these bytes, of which there are few.
+fn array_of(text: &[u8]) -> ArrayVec<u8, 256>
+    requires { length text.now ≤ 128 }
+    ensures { result.items ≡ text.now }
 {
     let mut bytes = ArrayVec::new();
-    if pick == GARBLED {
-        bytes.push(0);
-        return Some(bytes);
-    }
-    let text = sent.get(party, pick)?;
     bytes.try_extend_from_slice(text).unwrap();
-    Some(bytes)
+    bytes
 }
 
 impl Link for MemoryNet {
@@ -130,8 +138,12 @@ impl Link for MemoryNet {
 
     fn take(&mut self, party: u8, pick: u32) -> Taken {
         self.takes = self.takes.marked();
-        let taken = hand_over(&self.sent, party, pick);
-        self.taken = note_bytes(&taken);
-        Ok(taken)
+        let Some(text) = named(&self.sent, party, pick) else {
+            self.taken = None;
+            return Ok(None);
+        };
+        let bytes = array_of(text);
+        self.taken = Some(History::new().then(&bytes));
+        Ok(Some(bytes))
     }
 }

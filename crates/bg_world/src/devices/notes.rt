@@ -8,7 +8,7 @@ use arrayvec::ArrayVec;
 use bg_streams::History;
 
 /// Returns the bytes that a take gave, if it gave any.
-pub(crate) fn note_bytes(taken: &Option<ArrayVec<u8, 256>>) -> Option<History>
+fn note_bytes(taken: &Option<ArrayVec<u8, 256>>) -> Option<History>
     ensures { noted result ≡ taken.now }
 {
     match taken {
