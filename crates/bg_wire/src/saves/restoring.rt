@@ -32,6 +32,9 @@ pub fn restore(
     ensures restores { Restores slot0.now slot1.now party id (terms_of length rules) result }
     ensures savable { IfOk result IsSavableIn }
 {
+    if slot0.is_empty() && slot1.is_empty() {
+        return Ok(None);
+    }
     match read_newer(alloc, slot0, slot1)? {
         Some(saved) if is_saved_by(&saved, party, id, length, rules) => Ok(Some(saved)),
         Some(_) => Err(RestoreRefusal::WrongMatch),
