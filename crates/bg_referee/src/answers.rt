@@ -39,8 +39,8 @@ impl Referee {
             Ruling::NotYourTurn => TakeOutcome::NotYourTurn,
             Ruling::WordRefused => TakeOutcome::WordRefused,
             Ruling::Refused(EntryFault::Memory) => TakeOutcome::Memory,
-            Ruling::Refused(fault) => TakeOutcome::Illegal(fault),
-            Ruling::Accepted(number) => TakeOutcome::Accepted(number),
+            Ruling::Refused(fault) => return TakeOutcome::Illegal(fault),
+            Ruling::Accepted(number) => return TakeOutcome::Accepted(number),
         }
     }
 

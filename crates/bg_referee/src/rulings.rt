@@ -1,9 +1,11 @@
 //! The rulings on packets, before the entries of an answer are read.
-ghost use Rattle.std.specs.Prelude.{◌≤◌, ℕ};
+ghost use Rattle.std.specs.Prelude.{◌≤◌, ◌↔◌, ℕ, IsSome, IfSome};
+ghost use Rattle.bg_match.specs.Answers.{Answers, CanAnswer};
+ghost use Rattle.bg_turns.specs.Dice.{dice_of};
 ghost use Rattle.bg_wire.specs.Packets.PacketText.{IsPacket};
 
 use crate::Referee;
-use bg_match::{Action, Actor, EntryFault, Number, entry_of};
+use bg_match::{Action, Actor, Entry, EntryFault, Number, entry_of};
 use bg_turns::dice_of;
 use bg_wire::{Packet, party_of};
 
@@ -34,7 +36,6 @@ impl Referee {
     ghost use Rattle.bg_referee.specs.Rulings.{IsShowable, IsUnchanged};
     ghost use Rattle.bg_referee.specs.Referee.{IsReferee};
     ghost use Rattle.bg_referee.specs.Takes.{reply_to_want};
-    ghost use Rattle.bg_turns.specs.Dice.{dice_of};
 
     /// Rules on a packet. The word gives the dice where a roll is claimed.
     pub(crate) fn rule(&mut self, packet: &Packet, word: u32) -> Ruling
@@ -111,7 +112,7 @@ impl Referee {
         ensures showable { IsShowable self.old.saved result }
         ensures unchanged { IsUnchanged self.old result self.new }
     {
-        let Some(entry) = entry_of(action.copy(), dice_of(word)) else {
+        let Some(entry) = answer_to(action, word) else {
             return Ruling::WordRefused;
         };
         if let Err(fault) = self.log.push(entry) {
@@ -119,4 +120,17 @@ impl Referee {
         }
         Ruling::Accepted(self.log.len())
     }
+}
+
+/// Returns the entry that answers an action. A roll shows the dice of the word, and has no entry
+/// where there are none. They are looked for where a roll is claimed alone.
+fn answer_to(action: &Action, word: u32) -> Option<Entry>
+    ensures some { IsSome result ↔ CanAnswer action.now (dice_of word) }
+    ensures answers { IfSome result (λ entry. Answers action.now (dice_of word) entry) }
+{
+    let dice = match action {
+        Action::Roll => dice_of(word),
+        _ => None,
+    };
+    entry_of(action.copy(), dice)
 }

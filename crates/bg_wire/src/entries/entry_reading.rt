@@ -70,7 +70,7 @@ fn dice(reader: &mut Reader<'_>) -> Result<Dice, FieldFault>
     Ok(Dice { first, second })
 }
 
-/// Reads what follows the code of an action.
+/// Reads what follows the code of an action. A turn is returned at once, as [`Entry::copy`] does.
 #[tactic(auto, unfolding(crate::specs::Entries::EntryReading::action_of))]
 fn action_of(reader: &mut Reader<'_>, code: u8) -> Result<Action, FieldFault>
     ensures { Reads result reader.new (action_of code reader.old) }
@@ -80,7 +80,7 @@ fn action_of(reader: &mut Reader<'_>, code: u8) -> Result<Action, FieldFault>
         DOUBLED => Action::Double,
         TAKEN => Action::Take,
         DROPPED => Action::Drop,
-        MOVED => Action::Move(turn(reader)?),
+        MOVED => return Ok(Action::Move(turn(reader)?)),
         RESIGNED => Action::Resign(level(reader)?),
         ACCEPTED => Action::Accept,
         _ => Action::Reject,
@@ -95,7 +95,7 @@ pub(crate) fn action(reader: &mut Reader<'_>) -> Result<Action, FieldFault>
     action_of(reader, code)
 }
 
-/// Reads what follows the code of an entry.
+/// Reads what follows the code of an entry, which is returned as [`Entry::copy`] returns it.
 #[tactic(auto, unfolding(crate::specs::Entries::EntryReading::entry_of))]
 fn entry_of(reader: &mut Reader<'_>, code: u8) -> Result<Entry, FieldFault>
     ensures { Reads result reader.new (entry_of code reader.old) }
@@ -103,13 +103,13 @@ fn entry_of(reader: &mut Reader<'_>, code: u8) -> Result<Entry, FieldFault>
     Ok(match code {
         OPENING => {
             let Dice { first, second } = dice(reader)?;
-            Entry::Opening(first, second)
+            return Ok(Entry::Opening(first, second));
         }
-        ROLLED => Entry::Rolled(dice(reader)?),
+        ROLLED => return Ok(Entry::Rolled(dice(reader)?)),
         DOUBLED => Entry::Doubled,
         TAKEN => Entry::Taken,
         DROPPED => Entry::Dropped,
-        MOVED => Entry::Moved(turn(reader)?),
+        MOVED => return Ok(Entry::Moved(turn(reader)?)),
         RESIGNED => Entry::Resigned(level(reader)?),
         ACCEPTED => Entry::Accepted,
         REJECTED => Entry::Rejected,
