@@ -32,7 +32,8 @@ impl Record {
         Ok(())
     }
 
-    /// Appends an entry, and makes room where there is none.
+    /// Appends an entry, and makes room where there is none. It is rare, and so kept out of `push`.
+    #[inline(never)]
     pub(super) fn push_growing(&mut self, entry: Entry) -> Result<(), EntryFault>
         ensures ok { result ≢ Err EntryFault.Memory → (IsOk result ↔ IsNext self.old.terms self.old.entries entry) }
         ensures appended { OnOk result (self.new ≡ record self.old {
