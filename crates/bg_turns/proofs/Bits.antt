@@ -1,6 +1,5 @@
 -- The bits of the masks, and what they say of counts and places.
 pub mod Single
-pub mod Gathered
 pub mod ByBytes
 pub mod FourBytes
 pub mod Marked

@@ -1,22 +1,48 @@
 -- Eight counts tested at once, as the bytes of one number.
-use Rattle.std.proofs.Common.{◌≡◌, ℕ, zero, suc, ◌+◌, ◌*◌, ◌/◌, ◌^◌, ◌<◌, ◌≤◌, min, List, [], ◌∷◌, get_or, sym, ◌∙◌, ap, arith}
+use Rattle.std.proofs.Common.{◌≡◌, ℕ, zero, suc, ◌+◌, ◌*◌, ◌/◌, ◌^◌, ◌%◌, ◌<◌, ◌≤◌, min, List, [], ◌∷◌, get_or, sym, subst, ◌∙◌, ap, arith}
 use Rattle.std.specs.Int.{bit_at}
 use lib.Bits.{bit_and}
-use Rattle.std.proofs.lemmas.Nat.Bits.{bit_at_and, bit_at-lt}
+use Rattle.std.proofs.lemmas.Nat.Bits.{bit_at_and, same_from_bits}
 use Rattle.bg_turns.proofs.Bits.Single.{bit_at-shr}
-use Rattle.bg_turns.proofs.Bits.Gathered.{each, thrice, gathered_0, gathered_1, gathered_2, gathered_3, gathered_4, gathered_5, gathered_6, gathered_7}
 
--- the highest bit of the lowest byte, and the bits above it
-low_byte : (d m : ℕ) → d < 256 → bit_at (d + 256 * m) 7 ≡ d / 128
-low_byte d m small = omega arith
+-- a one in each byte
+abbrev pub each : ℕ
+each = 72340172838076673
 
-low_top : (d : ℕ) → d < 256 → bit_at d 7 ≡ d / 128
-low_top d small = omega arith
-
+-- the bits above the lowest byte
 pub above_byte : (d m q : ℕ) → d < 256 → bit_at (d + 256 * m) (8 + q) ≡ bit_at m q
 above_byte d m q small =
     let rest : (d + 256 * m) / 2 ^ 8 ≡ m = omega arith in
     sym (bit_at-shr (d + 256 * m) 8 q) ∙ ap (λ n. bit_at n q) rest
+
+-- the lowest bit of the lowest byte, and of those above it
+and_byte : (x y z : ℕ) → x < 256 → bit_and (x + 256 * y) (1 + 256 * z) ≡ x % 2 + 256 * bit_and y z
+and_byte x y z small = same_from_bits (bit_and (x + 256 * y) (1 + 256 * z)) (x % 2 + 256 * bit_and y z) bits where
+  cut : (q : ℕ) → bit_at (1 + 256 * z) q ≡ 0 → bit_at (x % 2 + 256 * bit_and y z) q ≡ 0
+      → bit_at (bit_and (x + 256 * y) (1 + 256 * z)) q ≡ bit_at (x % 2 + 256 * bit_and y z) q
+  cut q none other = let both = bit_at_and (x + 256 * y) (1 + 256 * z) q in omega arith
+
+  bits : (q : ℕ) → bit_at (bit_and (x + 256 * y) (1 + 256 * z)) q ≡ bit_at (x % 2 + 256 * bit_and y z) q
+  bits zero =
+      let both = bit_at_and (x + 256 * y) (1 + 256 * z) 0 in
+      let one : bit_at (1 + 256 * z) 0 ≡ 1 = omega arith in
+      let left : bit_at (x + 256 * y) 0 ≡ x % 2 = omega arith in
+      let right : bit_at (x % 2 + 256 * bit_and y z) 0 ≡ x % 2 = omega arith in
+      omega arith
+  bits (suc zero) = cut 1 (omega arith) (omega arith)
+  bits (suc (suc zero)) = cut 2 (omega arith) (omega arith)
+  bits (suc (suc (suc zero))) = cut 3 (omega arith) (omega arith)
+  bits (suc (suc (suc (suc zero)))) = cut 4 (omega arith) (omega arith)
+  bits (suc (suc (suc (suc (suc zero))))) = cut 5 (omega arith) (omega arith)
+  bits (suc (suc (suc (suc (suc (suc zero)))))) = cut 6 (omega arith) (omega arith)
+  bits (suc (suc (suc (suc (suc (suc (suc zero))))))) = cut 7 (omega arith) (omega arith)
+  bits (suc (suc (suc (suc (suc (suc (suc (suc q)))))))) =
+      let same : 8 + q ≡ suc (suc (suc (suc (suc (suc (suc (suc q))))))) = omega arith in
+      subst (λ n. bit_at (bit_and (x + 256 * y) (1 + 256 * z)) n ≡ bit_at (x % 2 + 256 * bit_and y z) n) same
+      (bit_at_and (x + 256 * y) (1 + 256 * z) (8 + q)
+      ∙ (ap (λ n. min n (bit_at (1 + 256 * z) (8 + q))) (above_byte x y q small)
+      ∙ (ap (λ n. min (bit_at y q) n) (above_byte 1 z q (omega arith))
+      ∙ (sym (bit_at_and y z q) ∙ sym (above_byte (x % 2) (bit_and y z) q (omega arith))))))
 
 module _ (c0 c1 c2 c3 c4 c5 c6 c7 a : ℕ) (x0 : c0 ≤ 15) (x1 : c1 ≤ 15) (x2 : c2 ≤ 15) (x3 : c3 ≤ 15) (x4 : c4 ≤ 15) (x5 : c5 ≤ 15) (x6 : c6 ≤ 15) (x7 : c7 ≤ 15) (few : a ≤ 127) where
   abbrev sums : ℕ
@@ -25,129 +51,59 @@ module _ (c0 c1 c2 c3 c4 c5 c6 c7 a : ℕ) (x0 : c0 ≤ 15) (x1 : c1 ≤ 15) (x2
   pub sums_small : sums < 18446744073709551616
   sums_small = omega arith
 
-  by_bytes : sums ≡ ((c0 + a) + 256 * ((c1 + a) + 256 * ((c2 + a) + 256 * ((c3 + a) + 256 * ((c4 + a) + 256 * ((c5 + a) + 256 * ((c6 + a) + 256 * (c7 + a))))))))
+  abbrev mark : ℕ → ℕ
+  mark c = (c + a) / 128
+
+  abbrev left : ℕ → ℕ
+  left c = 2 * ((c + a) % 128)
+
+  by_bytes : sums / 128 ≡ (mark c0 + left c1) + 256 * ((mark c1 + left c2) + 256 * ((mark c2 + left c3) + 256 * ((mark c3 + left c4) + 256 * ((mark c4 + left c5) + 256 * ((mark c5 + left c6) + 256 * ((mark c6 + left c7) + 256 * (mark c7 + 256 * 0)))))))
   by_bytes = omega arith
-
-  byte_0 : bit_at sums 7 ≡ (c0 + a) / 128
-  byte_0 = ap (λ n. bit_at n 7) by_bytes ∙ low_byte (c0 + a) ((c1 + a) + 256 * ((c2 + a) + 256 * ((c3 + a) + 256 * ((c4 + a) + 256 * ((c5 + a) + 256 * ((c6 + a) + 256 * (c7 + a))))))) (omega arith)
-
-  byte_1 : bit_at sums 15 ≡ (c1 + a) / 128
-  byte_1 = ap (λ n. bit_at n 15) by_bytes ∙ (above_byte (c0 + a) ((c1 + a) + 256 * ((c2 + a) + 256 * ((c3 + a) + 256 * ((c4 + a) + 256 * ((c5 + a) + 256 * ((c6 + a) + 256 * (c7 + a))))))) 7 (omega arith) ∙ low_byte (c1 + a) ((c2 + a) + 256 * ((c3 + a) + 256 * ((c4 + a) + 256 * ((c5 + a) + 256 * ((c6 + a) + 256 * (c7 + a)))))) (omega arith))
-
-  byte_2 : bit_at sums 23 ≡ (c2 + a) / 128
-  byte_2 = ap (λ n. bit_at n 23) by_bytes ∙ (above_byte (c0 + a) ((c1 + a) + 256 * ((c2 + a) + 256 * ((c3 + a) + 256 * ((c4 + a) + 256 * ((c5 + a) + 256 * ((c6 + a) + 256 * (c7 + a))))))) 15 (omega arith) ∙ (above_byte (c1 + a) ((c2 + a) + 256 * ((c3 + a) + 256 * ((c4 + a) + 256 * ((c5 + a) + 256 * ((c6 + a) + 256 * (c7 + a)))))) 7 (omega arith) ∙ low_byte (c2 + a) ((c3 + a) + 256 * ((c4 + a) + 256 * ((c5 + a) + 256 * ((c6 + a) + 256 * (c7 + a))))) (omega arith)))
-
-  byte_3 : bit_at sums 31 ≡ (c3 + a) / 128
-  byte_3 = ap (λ n. bit_at n 31) by_bytes ∙ (above_byte (c0 + a) ((c1 + a) + 256 * ((c2 + a) + 256 * ((c3 + a) + 256 * ((c4 + a) + 256 * ((c5 + a) + 256 * ((c6 + a) + 256 * (c7 + a))))))) 23 (omega arith) ∙ (above_byte (c1 + a) ((c2 + a) + 256 * ((c3 + a) + 256 * ((c4 + a) + 256 * ((c5 + a) + 256 * ((c6 + a) + 256 * (c7 + a)))))) 15 (omega arith) ∙ (above_byte (c2 + a) ((c3 + a) + 256 * ((c4 + a) + 256 * ((c5 + a) + 256 * ((c6 + a) + 256 * (c7 + a))))) 7 (omega arith) ∙ low_byte (c3 + a) ((c4 + a) + 256 * ((c5 + a) + 256 * ((c6 + a) + 256 * (c7 + a)))) (omega arith))))
-
-  byte_4 : bit_at sums 39 ≡ (c4 + a) / 128
-  byte_4 = ap (λ n. bit_at n 39) by_bytes ∙ (above_byte (c0 + a) ((c1 + a) + 256 * ((c2 + a) + 256 * ((c3 + a) + 256 * ((c4 + a) + 256 * ((c5 + a) + 256 * ((c6 + a) + 256 * (c7 + a))))))) 31 (omega arith) ∙ (above_byte (c1 + a) ((c2 + a) + 256 * ((c3 + a) + 256 * ((c4 + a) + 256 * ((c5 + a) + 256 * ((c6 + a) + 256 * (c7 + a)))))) 23 (omega arith) ∙ (above_byte (c2 + a) ((c3 + a) + 256 * ((c4 + a) + 256 * ((c5 + a) + 256 * ((c6 + a) + 256 * (c7 + a))))) 15 (omega arith) ∙ (above_byte (c3 + a) ((c4 + a) + 256 * ((c5 + a) + 256 * ((c6 + a) + 256 * (c7 + a)))) 7 (omega arith) ∙ low_byte (c4 + a) ((c5 + a) + 256 * ((c6 + a) + 256 * (c7 + a))) (omega arith)))))
-
-  byte_5 : bit_at sums 47 ≡ (c5 + a) / 128
-  byte_5 = ap (λ n. bit_at n 47) by_bytes ∙ (above_byte (c0 + a) ((c1 + a) + 256 * ((c2 + a) + 256 * ((c3 + a) + 256 * ((c4 + a) + 256 * ((c5 + a) + 256 * ((c6 + a) + 256 * (c7 + a))))))) 39 (omega arith) ∙ (above_byte (c1 + a) ((c2 + a) + 256 * ((c3 + a) + 256 * ((c4 + a) + 256 * ((c5 + a) + 256 * ((c6 + a) + 256 * (c7 + a)))))) 31 (omega arith) ∙ (above_byte (c2 + a) ((c3 + a) + 256 * ((c4 + a) + 256 * ((c5 + a) + 256 * ((c6 + a) + 256 * (c7 + a))))) 23 (omega arith) ∙ (above_byte (c3 + a) ((c4 + a) + 256 * ((c5 + a) + 256 * ((c6 + a) + 256 * (c7 + a)))) 15 (omega arith) ∙ (above_byte (c4 + a) ((c5 + a) + 256 * ((c6 + a) + 256 * (c7 + a))) 7 (omega arith) ∙ low_byte (c5 + a) ((c6 + a) + 256 * (c7 + a)) (omega arith))))))
-
-  byte_6 : bit_at sums 55 ≡ (c6 + a) / 128
-  byte_6 = ap (λ n. bit_at n 55) by_bytes ∙ (above_byte (c0 + a) ((c1 + a) + 256 * ((c2 + a) + 256 * ((c3 + a) + 256 * ((c4 + a) + 256 * ((c5 + a) + 256 * ((c6 + a) + 256 * (c7 + a))))))) 47 (omega arith) ∙ (above_byte (c1 + a) ((c2 + a) + 256 * ((c3 + a) + 256 * ((c4 + a) + 256 * ((c5 + a) + 256 * ((c6 + a) + 256 * (c7 + a)))))) 39 (omega arith) ∙ (above_byte (c2 + a) ((c3 + a) + 256 * ((c4 + a) + 256 * ((c5 + a) + 256 * ((c6 + a) + 256 * (c7 + a))))) 31 (omega arith) ∙ (above_byte (c3 + a) ((c4 + a) + 256 * ((c5 + a) + 256 * ((c6 + a) + 256 * (c7 + a)))) 23 (omega arith) ∙ (above_byte (c4 + a) ((c5 + a) + 256 * ((c6 + a) + 256 * (c7 + a))) 15 (omega arith) ∙ (above_byte (c5 + a) ((c6 + a) + 256 * (c7 + a)) 7 (omega arith) ∙ low_byte (c6 + a) (c7 + a) (omega arith)))))))
-
-  byte_7 : bit_at sums 63 ≡ (c7 + a) / 128
-  byte_7 = ap (λ n. bit_at n 63) by_bytes ∙ (above_byte (c0 + a) ((c1 + a) + 256 * ((c2 + a) + 256 * ((c3 + a) + 256 * ((c4 + a) + 256 * ((c5 + a) + 256 * ((c6 + a) + 256 * (c7 + a))))))) 55 (omega arith) ∙ (above_byte (c1 + a) ((c2 + a) + 256 * ((c3 + a) + 256 * ((c4 + a) + 256 * ((c5 + a) + 256 * ((c6 + a) + 256 * (c7 + a)))))) 47 (omega arith) ∙ (above_byte (c2 + a) ((c3 + a) + 256 * ((c4 + a) + 256 * ((c5 + a) + 256 * ((c6 + a) + 256 * (c7 + a))))) 39 (omega arith) ∙ (above_byte (c3 + a) ((c4 + a) + 256 * ((c5 + a) + 256 * ((c6 + a) + 256 * (c7 + a)))) 31 (omega arith) ∙ (above_byte (c4 + a) ((c5 + a) + 256 * ((c6 + a) + 256 * (c7 + a))) 23 (omega arith) ∙ (above_byte (c5 + a) ((c6 + a) + 256 * (c7 + a)) 15 (omega arith) ∙ (above_byte (c6 + a) (c7 + a) 7 (omega arith) ∙ low_top (c7 + a) (omega arith))))))))
 
   abbrev marks : ℕ
   marks = bit_and (sums / 128) each
 
-  marks_off : (q : ℕ) → bit_at each q ≡ 0 → bit_at marks q ≡ 0
-  marks_off q none = let both = bit_at_and (sums / 128) each q in omega arith
-
-  mark_0 : bit_at marks 0 ≡ (c0 + a) / 128
-  mark_0 =
-      let both : bit_at marks 0 ≡ min (bit_at (sums / 128) 0) 1 = bit_at_and (sums / 128) each 0 in
-      let moved : bit_at (sums / 128) 0 ≡ bit_at sums 7 = bit_at-shr sums 7 0 in
-      let is = byte_0 in
-      let one = bit_at-lt sums 7 in
-      omega arith
-
-  mark_1 : bit_at marks 8 ≡ (c1 + a) / 128
-  mark_1 =
-      let both : bit_at marks 8 ≡ min (bit_at (sums / 128) 8) 1 = bit_at_and (sums / 128) each 8 in
-      let moved : bit_at (sums / 128) 8 ≡ bit_at sums 15 = bit_at-shr sums 7 8 in
-      let is = byte_1 in
-      let one = bit_at-lt sums 15 in
-      omega arith
-
-  mark_2 : bit_at marks 16 ≡ (c2 + a) / 128
-  mark_2 =
-      let both : bit_at marks 16 ≡ min (bit_at (sums / 128) 16) 1 = bit_at_and (sums / 128) each 16 in
-      let moved : bit_at (sums / 128) 16 ≡ bit_at sums 23 = bit_at-shr sums 7 16 in
-      let is = byte_2 in
-      let one = bit_at-lt sums 23 in
-      omega arith
-
-  mark_3 : bit_at marks 24 ≡ (c3 + a) / 128
-  mark_3 =
-      let both : bit_at marks 24 ≡ min (bit_at (sums / 128) 24) 1 = bit_at_and (sums / 128) each 24 in
-      let moved : bit_at (sums / 128) 24 ≡ bit_at sums 31 = bit_at-shr sums 7 24 in
-      let is = byte_3 in
-      let one = bit_at-lt sums 31 in
-      omega arith
-
-  mark_4 : bit_at marks 32 ≡ (c4 + a) / 128
-  mark_4 =
-      let both : bit_at marks 32 ≡ min (bit_at (sums / 128) 32) 1 = bit_at_and (sums / 128) each 32 in
-      let moved : bit_at (sums / 128) 32 ≡ bit_at sums 39 = bit_at-shr sums 7 32 in
-      let is = byte_4 in
-      let one = bit_at-lt sums 39 in
-      omega arith
-
-  mark_5 : bit_at marks 40 ≡ (c5 + a) / 128
-  mark_5 =
-      let both : bit_at marks 40 ≡ min (bit_at (sums / 128) 40) 1 = bit_at_and (sums / 128) each 40 in
-      let moved : bit_at (sums / 128) 40 ≡ bit_at sums 47 = bit_at-shr sums 7 40 in
-      let is = byte_5 in
-      let one = bit_at-lt sums 47 in
-      omega arith
-
-  mark_6 : bit_at marks 48 ≡ (c6 + a) / 128
-  mark_6 =
-      let both : bit_at marks 48 ≡ min (bit_at (sums / 128) 48) 1 = bit_at_and (sums / 128) each 48 in
-      let moved : bit_at (sums / 128) 48 ≡ bit_at sums 55 = bit_at-shr sums 7 48 in
-      let is = byte_6 in
-      let one = bit_at-lt sums 55 in
-      omega arith
-
-  mark_7 : bit_at marks 56 ≡ (c7 + a) / 128
-  mark_7 =
-      let both : bit_at marks 56 ≡ min (bit_at (sums / 128) 56) 1 = bit_at_and (sums / 128) each 56 in
-      let moved : bit_at (sums / 128) 56 ≡ bit_at sums 63 = bit_at-shr sums 7 56 in
-      let is = byte_7 in
-      let one = bit_at-lt sums 63 in
-      omega arith
+  marked : marks ≡ mark c0 + 256 * (mark c1 + 256 * (mark c2 + 256 * (mark c3 + 256 * (mark c4 + 256 * (mark c5 + 256 * (mark c6 + 256 * mark c7))))))
+  marked =
+      let e7 = and_byte (mark c7) 0 0 (omega arith) in
+      let e6 = and_byte (mark c6 + left c7) (mark c7 + 256 * 0) 1 (omega arith) in
+      let e5 = and_byte (mark c5 + left c6) ((mark c6 + left c7) + 256 * (mark c7 + 256 * 0)) 257 (omega arith) in
+      let e4 = and_byte (mark c4 + left c5) ((mark c5 + left c6) + 256 * ((mark c6 + left c7) + 256 * (mark c7 + 256 * 0))) 65793 (omega arith) in
+      let e3 = and_byte (mark c3 + left c4) ((mark c4 + left c5) + 256 * ((mark c5 + left c6) + 256 * ((mark c6 + left c7) + 256 * (mark c7 + 256 * 0)))) 16843009 (omega arith) in
+      let e2 = and_byte (mark c2 + left c3) ((mark c3 + left c4) + 256 * ((mark c4 + left c5) + 256 * ((mark c5 + left c6) + 256 * ((mark c6 + left c7) + 256 * (mark c7 + 256 * 0))))) 4311810305 (omega arith) in
+      let e1 = and_byte (mark c1 + left c2) ((mark c2 + left c3) + 256 * ((mark c3 + left c4) + 256 * ((mark c4 + left c5) + 256 * ((mark c5 + left c6) + 256 * ((mark c6 + left c7) + 256 * (mark c7 + 256 * 0)))))) 1103823438081 (omega arith) in
+      let e0 = and_byte (mark c0 + left c1) ((mark c1 + left c2) + 256 * ((mark c2 + left c3) + 256 * ((mark c3 + left c4) + 256 * ((mark c4 + left c5) + 256 * ((mark c5 + left c6) + 256 * ((mark c6 + left c7) + 256 * (mark c7 + 256 * 0))))))) 282578800148737 (omega arith) in
+      ap (λ n. bit_and n each) by_bytes ∙ omega (arith, e0, e1, e2, e3, e4, e5, e6, e7)
 
   abbrev found : ℕ
-  found = bit_and (thrice marks) 255
+  found = marks * 72624976668147840 % 18446744073709551616 / 72057594037927936
+
+  pub gathered : found ≡ mark c0 + 2 * mark c1 + 4 * mark c2 + 8 * mark c3 + 16 * mark c4 + 32 * mark c5 + 64 * mark c6 + 128 * mark c7
+  gathered = ap (λ n. n * 72624976668147840 % 18446744073709551616 / 72057594037927936) marked ∙ omega arith
 
   pub found_0 : bit_at found 0 ≡ (c0 + a) / 128
-  found_0 = gathered_0 marks marks_off ∙ mark_0
+  found_0 = ap (λ n. bit_at n 0) gathered ∙ omega arith
 
   pub found_1 : bit_at found 1 ≡ (c1 + a) / 128
-  found_1 = gathered_1 marks marks_off ∙ mark_1
+  found_1 = ap (λ n. bit_at n 1) gathered ∙ omega arith
 
   pub found_2 : bit_at found 2 ≡ (c2 + a) / 128
-  found_2 = gathered_2 marks marks_off ∙ mark_2
+  found_2 = ap (λ n. bit_at n 2) gathered ∙ omega arith
 
   pub found_3 : bit_at found 3 ≡ (c3 + a) / 128
-  found_3 = gathered_3 marks marks_off ∙ mark_3
+  found_3 = ap (λ n. bit_at n 3) gathered ∙ omega arith
 
   pub found_4 : bit_at found 4 ≡ (c4 + a) / 128
-  found_4 = gathered_4 marks marks_off ∙ mark_4
+  found_4 = ap (λ n. bit_at n 4) gathered ∙ omega arith
 
   pub found_5 : bit_at found 5 ≡ (c5 + a) / 128
-  found_5 = gathered_5 marks marks_off ∙ mark_5
+  found_5 = ap (λ n. bit_at n 5) gathered ∙ omega arith
 
   pub found_6 : bit_at found 6 ≡ (c6 + a) / 128
-  found_6 = gathered_6 marks marks_off ∙ mark_6
+  found_6 = ap (λ n. bit_at n 6) gathered ∙ omega arith
 
   pub found_7 : bit_at found 7 ≡ (c7 + a) / 128
-  found_7 = gathered_7 marks marks_off ∙ mark_7
+  found_7 = ap (λ n. bit_at n 7) gathered ∙ omega arith
 
 -- the same of a list
 module _ (cs : List ℕ) (a : ℕ) (small : (i : ℕ) → get_or cs i 0 ≤ 15) (few : a ≤ 127) where

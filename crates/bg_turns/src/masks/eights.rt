@@ -6,6 +6,9 @@ ghost use Rattle.std.specs.Int.{bit_at};
 /// A one in each byte.
 const EACH: u64 = 0x0101_0101_0101_0101;
 
+/// A product with it moves bit `8 * i` to bit `56 + i`, for each `i` below 8.
+const GATHER: u64 = 0x0102_0408_1020_4080;
+
 /// Returns which of eight counts, each at most 15, reach 128 with this added: bit `i` stands for
 /// count `i`.
 pub(crate) fn reaching(counts: [u8; 8], added: u8) -> u8
@@ -14,11 +17,8 @@ pub(crate) fn reaching(counts: [u8; 8], added: u8) -> u8
     ensures { (i : ℕ) → i < 8 → bit_at result i ≡ (slice_index counts i + added) / 128 }
 {
     let sums = u64::from_le_bytes(counts) + u64::from(added) * EACH;
-    let mut found = sums >> 7 & EACH;
-    found |= found >> 7;
-    found |= found >> 14;
-    found |= found >> 28;
-    (found & 255) as u8
+    let found = sums >> 7 & EACH;
+    (found.wrapping_mul(GATHER) >> 56) as u8
 }
 
 /// Returns eight counts of a player from a point downward.
