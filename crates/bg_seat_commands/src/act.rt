@@ -104,7 +104,7 @@ fn action_of(rt: &HostRuntime, words: &[&str]) -> Result<Option<Action>, Ending>
 fn act(rt: &HostRuntime, seat: &mut Seat<'_>, wanted: &Wanted) -> Result<Ending, Ending> {
     let from = seat.held();
     let mut stage = Stage::Listening;
-    if let Some((number, _)) = seat.process.open_claim() {
+    if let Some((number, _)) = seat.open_claim() {
         let first = " is still claimed by an earlier call, which comes first";
         say_number(rt, "entry ", number.into(), first);
     }
@@ -127,7 +127,7 @@ fn act(rt: &HostRuntime, seat: &mut Seat<'_>, wanted: &Wanted) -> Result<Ending,
             Stage::Listening
                 if over
                     || (ticks >= TICKS_TO_LISTEN
-                        && (wanted.is_there(seat.held()) || seat.process.acts())) => {
+                        && (wanted.is_there(seat.held()) || seat.acts())) => {
                 match claim(rt, seat, wanted)? {
                     Some(number) => stage = Stage::Claimed(number),
                     None => return finish(rt, seat, wanted, from, wanted.entry),
@@ -173,7 +173,7 @@ fn claim(rt: &HostRuntime, seat: &mut Seat<'_>, wanted: &Wanted) -> Result<Optio
 /// Reports that an action is refused and, of an illegal one, why in the words of a player.
 fn refused(rt: &HostRuntime, seat: &Seat<'_>, action: &Action, fault: ChooseFault) -> Ending {
     say(rt, outcome_text(&Outcome::Chose(Err(fault))).as_str());
-    if let (ChooseFault::Illegal(fault), Some(record)) = (fault, seat.process.held()) {
+    if let (ChooseFault::Illegal(fault), Some(record)) = (fault, seat.record()) {
         let standing = record.standing();
         if let Ok(text) = refusal_text(rt.alloc(), &standing, seat.player, action, fault) {
             let lines = str::from_utf8(&text).unwrap_or_default();
@@ -185,7 +185,7 @@ fn refused(rt: &HostRuntime, seat: &Seat<'_>, action: &Action, fault: ChooseFaul
 
 /// Reports that the time is over. A claim that was saved is sent by the next call.
 fn out_of_time(rt: &HostRuntime, seat: &Seat<'_>) -> Ending {
-    match seat.process.open_claim() {
+    match seat.open_claim() {
         Some((number, _)) => {
             let over = "the time is over: the claim of entry ";
             say_number(
@@ -196,7 +196,7 @@ fn out_of_time(rt: &HostRuntime, seat: &Seat<'_>) -> Ending {
             );
             Ending::Failed
         }
-        None if seat.process.link().heard() == 0 => {
+        None if seat.link().heard() == 0 => {
             let why = Silence::of(rt, &seat.table);
             failed(
                 rt,
@@ -219,7 +219,7 @@ fn finish(
     from: Number,
     number: Option<Number>,
 ) -> Result<Ending, Ending> {
-    let Some(record) = seat.process.held() else {
+    let Some(record) = seat.record() else {
         return Ok(Ending::Failed);
     };
     written(rt, print_news(rt, record, from))?;

@@ -26,16 +26,16 @@ fn play(rt: &HostRuntime, seat: &mut Seat<'_>) -> Result<Ending, Ending> {
     let mut telling = Telling::new();
     for _ in 0..u64::MAX {
         let round = seat.next_round()?;
-        if let Some(record) = seat.process.held() {
+        if let Some(record) = seat.record() {
             telling.go_on(rt, record)?;
         }
         if round.going == Going::Over {
             return Ok(Ending::Served);
         }
-        if !seat.process.acts() {
+        if !seat.acts() {
             continue;
         }
-        let Some(record) = seat.process.held() else {
+        let Some(record) = seat.record() else {
             continue;
         };
         match auto_action(rt.alloc(), record, seat.player) {

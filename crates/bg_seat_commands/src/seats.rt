@@ -14,7 +14,7 @@ use bg_match::{Action, Number, Record};
 use bg_options::SeatOptions;
 use bg_processes::{
     Failures, FileKeeper, FolderLock, Going, KeyFile, Keyring, Liveness, LivenessChange, MatchFile,
-    Names, PartySocket, SeatProcess, Ticking, Waiting,
+    Names, PartySocket, Ready, SeatProcess, Ticking, Waiting,
 };
 use bg_reports::Ending;
 use bg_wire::party_of;
@@ -29,7 +29,7 @@ pub(crate) struct Seat<'a> {
     rt: &'a HostRuntime,
     /// The match of its key file.
     pub(crate) table: MatchFile,
-    pub(crate) process: Process<'a>,
+    process: Process<'a>,
     /// The names of the players.
     pub(crate) names: Names,
     pub(crate) waiting: Waiting,
@@ -91,18 +91,7 @@ impl<'a> Seat<'a> {
         let keys = Keyring::OfParty(key);
         let (lock, link) = folder_and_link(rt, folder, table.port, party, keys, failures)?;
         let (waiting, ticking) = waiting_for(rt, link.descriptor(), with_input)?;
-        let Ok(keeper) = FileKeeper::new(rt, folder, party, failures) else {
-            return Err(no_memory(rt));
-        };
-        let begun = SeatProcess::begin(rt.alloc(), player, table.id, table.terms, link, keeper);
-        say_failures(rt, failures, folder);
-        let Ok((process, outcome)) = begun else {
-            return Err(wrong(rt, "length out of range"));
-        };
-        if outcome != Outcome::Restarted {
-            let saves = saves_of(folder, player, &table);
-            return Err(stopped(rt, saves, &outcome));
-        }
+        let process = begun_process(rt, failures, folder, player, &table, link)?;
         let known = count_of(process.held());
         Ok(Seat {
             rt,
@@ -126,21 +115,10 @@ impl<'a> Seat<'a> {
     /// Waits, and runs the next round. Reports an entry in the player's name that the seat never
     /// claimed.
     pub(crate) fn next_round(&mut self) -> Result<Round, Ending> {
-        let empty_reads = self.process.link().empty_reads();
-        let next = self
-            .ticking
-            .next_round(self.rt, &mut self.waiting, empty_reads);
-        let (ready, tick) = waited(self.rt, next)?;
-        let claim = self.process.open_claim();
-        let played = self.process.round(tick, &mut self.reporter);
-        self.reporter.check_files()?;
-        let going = match played {
-            Ok(going) => going,
-            Err(outcome) => return Err(self.stopped(&outcome)),
-        };
-        let word = self.liveness.after_round(self.process.link(), tick);
-        self.silence
-            .after_round(self.process.link(), &self.liveness);
+        let (ready, tick) = self.wait()?;
+        let claim = self.open_claim();
+        let going = self.play(tick)?;
+        let word = self.note_liveness(tick);
         Ok(Round {
             input: ready.input,
             tick,
@@ -148,6 +126,33 @@ impl<'a> Seat<'a> {
             word,
             foreign: self.news_of_others(&claim),
         })
+    }
+
+    /// Waits until a datagram, input or a tick is due.
+    fn wait(&mut self) -> Result<(Ready, bool), Ending> {
+        let empty_reads = self.link().empty_reads();
+        let next = self
+            .ticking
+            .next_round(self.rt, &mut self.waiting, empty_reads);
+        waited(self.rt, next)
+    }
+
+    /// Runs a round of the process, with a tick if one is due.
+    fn play(&mut self, tick: bool) -> Result<Going, Ending> {
+        let played = self.process.round(tick, &mut self.reporter);
+        self.reporter.check_files()?;
+        match played {
+            Ok(going) => Ok(going),
+            Err(outcome) => Err(self.stopped(&outcome)),
+        }
+    }
+
+    /// Notes whether the referee is heard of, and returns whether that has changed.
+    fn note_liveness(&mut self, tick: bool) -> Option<LivenessChange> {
+        let link = self.process.link();
+        let change = self.liveness.after_round(link, tick);
+        self.silence.after_round(link, &self.liveness);
+        change
     }
 
     /// Saves at once what waits for a tick, where the process may end.
@@ -170,7 +175,8 @@ impl<'a> Seat<'a> {
     /// answer this claim, if there is one and none was returned before, and reports it unless a
     /// person at a table is told.
     fn news_of_others(&mut self, claim: &Option<(Number, Action)>) -> Option<Number> {
-        let foreign = first_foreign(self.process.held(), self.player, self.known, claim);
+        let (player, known) = (self.player, self.known);
+        let foreign = first_foreign(self.record(), player, known, claim);
         self.known = self.known.max(self.held());
         let number = foreign?;
         if self.has_foreign {
@@ -191,9 +197,30 @@ impl<'a> Seat<'a> {
         }
     }
 
+    /// Returns the record, or `None` where the seat is down. What others want of the process they
+    /// ask the seat: the check takes ten seconds for each function that calls the process.
+    pub(crate) fn record(&self) -> Option<&Record> {
+        self.process.held()
+    }
+
+    /// Returns the number and the action of the claim that waits for its answer, if one does.
+    pub(crate) fn open_claim(&self) -> Option<(Number, Action)> {
+        self.process.open_claim()
+    }
+
+    /// Returns whether the player is to act, and no claim waits for its answer.
+    pub(crate) fn acts(&self) -> bool {
+        self.process.acts()
+    }
+
+    /// Returns the socket to the other parties.
+    pub(crate) fn link(&self) -> &PartySocket<'a, HostRuntime> {
+        self.process.link()
+    }
+
     /// Returns the number of entries that the seat holds.
     pub(crate) fn held(&self) -> Number {
-        count_of(self.process.held())
+        count_of(self.record())
     }
 }
 
@@ -215,6 +242,29 @@ fn folder_and_link<'a>(
         let _ = fs::remove_dir(rt, folder);
     }
     Ok((lock, link?))
+}
+
+/// Begins the process of a seat over its folder and its socket.
+fn begun_process<'a>(
+    rt: &'a HostRuntime,
+    failures: &'a Failures,
+    folder: &str,
+    player: Player,
+    table: &MatchFile,
+    link: PartySocket<'a, HostRuntime>,
+) -> Result<Process<'a>, Ending> {
+    let Ok(keeper) = FileKeeper::new(rt, folder, party_of(player), failures) else {
+        return Err(no_memory(rt));
+    };
+    let begun = SeatProcess::begin(rt.alloc(), player, table.id, table.terms, link, keeper);
+    say_failures(rt, failures, folder);
+    let Ok((process, outcome)) = begun else {
+        return Err(wrong(rt, "length out of range"));
+    };
+    if outcome != Outcome::Restarted {
+        return Err(stopped(rt, saves_of(folder, player, table), &outcome));
+    }
+    Ok(process)
 }
 
 /// Returns the saves of a player's seat of a match in a folder.

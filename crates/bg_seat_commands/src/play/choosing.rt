@@ -19,12 +19,12 @@ const STANDS_STILL: &[u8] = b"nothing can be chosen until your files can be read
 impl<'a> Table<'a> {
     /// Returns whether no choice waits for the referee.
     pub(super) fn claims_nothing(&self) -> bool {
-        self.seat.process.open_claim().is_none()
+        self.seat.open_claim().is_none()
     }
 
     /// Returns whether the player may offer to resign now, and no choice waits for the referee.
     pub(super) fn may_resign(&self) -> bool {
-        match self.seat.process.held() {
+        match self.seat.record() {
             Some(record) => {
                 self.claims_nothing() && offered(&record.standing(), self.player).resign
             }
@@ -58,7 +58,7 @@ impl<'a> Table<'a> {
     /// a turn.
     fn refuse(&self, action: &Action, fault: ChooseFault) -> Result<(), Ending> {
         let rt = self.rt;
-        let (ChooseFault::Illegal(fault), Some(record)) = (fault, self.seat.process.held()) else {
+        let (ChooseFault::Illegal(fault), Some(record)) = (fault, self.seat.record()) else {
             return self.prompt();
         };
         let standing = record.standing();

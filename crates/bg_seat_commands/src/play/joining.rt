@@ -75,7 +75,7 @@ impl<'a> Table<'a> {
             return false;
         }
         let held = self.seat.held();
-        let is_still = held == self.caught_up && self.seat.process.link().heard() > 0;
+        let is_still = held == self.caught_up && self.seat.link().heard() > 0;
         self.caught_up = held;
         self.still = if is_still {
             self.still.saturating_add(1)

@@ -29,7 +29,7 @@ const SEVERAL_TURNS: &[u8] = b"several turns are legal: `legal` lists them";
 impl<'a> Table<'a> {
     /// Returns the board and the dice that the player is to move, if there are any.
     pub(super) fn to_move(&self) -> Option<(Board, Dice)> {
-        let standing = self.seat.process.held()?.standing();
+        let standing = self.seat.record()?.standing();
         match standing.phase() {
             Phase::ToMove(mover, dice) if mover == self.player => Some((standing.board(), dice)),
             _ => None,

@@ -14,11 +14,11 @@ impl<'a> Table<'a> {
     /// Returns whether there was.
     pub(super) fn tell_of_opponent(&mut self) -> Result<bool, Ending> {
         let opponent = self.player.opponent();
-        let is_awaited = match self.seat.process.held() {
+        let is_awaited = match self.seat.record() {
             Some(record) => record.actor() == Actor::Seat(opponent),
             None => false,
         };
-        let socket = self.seat.process.link();
+        let socket = self.seat.link();
         let change = self.opponent.after_round(self.rt, socket, is_awaited);
         let Some(change) = change else {
             return Ok(false);

@@ -65,7 +65,7 @@ impl<'a> Table<'a> {
     pub(super) fn note_shown(&mut self) {
         self.typed.clear();
         self.listed = 0;
-        if let Some(record) = self.seat.process.held() {
+        if let Some(record) = self.seat.record() {
             self.shown = record.len();
             self.stood = Some(record.standing());
         }
@@ -85,7 +85,7 @@ impl<'a> Table<'a> {
     /// Shows the board, with the names of the players beside the score where they fit.
     fn show_board(&self) -> Result<(), Ending> {
         let rt = self.rt;
-        let Some(record) = self.seat.process.held() else {
+        let Some(record) = self.seat.record() else {
             return Ok(());
         };
         let columns = self.screen.columns;
@@ -111,11 +111,11 @@ impl<'a> Table<'a> {
     /// offer, or that their choice waits.
     pub(super) fn prompt(&self) -> Result<(), Ending> {
         let rt = self.rt;
-        if let Some((_, action)) = self.seat.process.open_claim() {
+        if let Some((_, action)) = self.seat.open_claim() {
             let text = allocated(rt, kept_text(rt.alloc(), self.player, &action))?;
             return self.screen.say(&text);
         }
-        let Some(record) = self.seat.process.held() else {
+        let Some(record) = self.seat.record() else {
             return Ok(());
         };
         let standing = record.standing();
@@ -171,7 +171,7 @@ impl<'a> Table<'a> {
     /// matter to the player; of more entries than a screen has, the board alone. Returns whether it
     /// showed the board, which has a prompt below it.
     fn show_news(&mut self, going: Going) -> Result<bool, Ending> {
-        let Some(record) = self.seat.process.held() else {
+        let Some(record) = self.seat.record() else {
             return Ok(false);
         };
         if record.len().saturating_sub(self.shown) > MOST_NEWS {

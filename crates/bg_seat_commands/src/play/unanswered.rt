@@ -69,8 +69,8 @@ impl<'a> Table<'a> {
         if !round.tick {
             return Ok(false);
         }
-        let claimed = self.seat.process.open_claim().map(|(number, _)| number);
-        let heard = self.seat.process.link().heard();
+        let claimed = self.seat.open_claim().map(|(number, _)| number);
+        let heard = self.seat.link().heard();
         if !self.unanswered.count_tick(claimed, heard, self.is_silent) {
             return Ok(false);
         }

@@ -15,7 +15,7 @@ const SENT: &[u8] = b"nothing to undo: a turn that was sent can't be taken back"
 impl<'a> Table<'a> {
     /// Returns whether the last entry is a turn of the player.
     fn has_just_moved(&self) -> bool {
-        match self.seat.process.held() {
+        match self.seat.record() {
             Some(record) => {
                 let last = record.len();
                 record.by(last) == Some(self.player)
