@@ -117,10 +117,15 @@ impl<'a> Server<'a> {
         }
     }
 
+    /// Returns the store. The check takes five seconds for each function that asks the site for it.
+    fn store(&self) -> &FolderStore<'a> {
+        self.site.store()
+    }
+
     /// Takes in the matches of the folder. What is no match is passed over; what can't be served is
     /// left out.
     fn open_all(&mut self) -> io::Result<()> {
-        for name in self.site.store().names()? {
+        for name in self.store().names()? {
             if !is_name(name.as_str()) {
                 continue;
             }
@@ -133,7 +138,7 @@ impl<'a> Server<'a> {
 
     /// Takes in the match of a folder, if it has one. Returns false where that can't be served.
     fn open(&mut self, name: &str) -> io::Result<bool> {
-        let Ok(found) = self.site.store().find(name) else {
+        let Ok(found) = self.store().find(name) else {
             return Ok(false);
         };
         let Some((found, lock)) = found else {
@@ -150,7 +155,7 @@ impl<'a> Server<'a> {
 
     /// Takes in what the operator has changed, as far as it can be read.
     pub(crate) fn take_changes(&mut self) {
-        let Ok(names) = self.site.store().take_changes() else {
+        let Ok(names) = self.store().take_changes() else {
             return;
         };
         for name in names.iter() {
@@ -163,7 +168,7 @@ impl<'a> Server<'a> {
     /// Forgets what the operator has changed, since what was taken in of it is saved.
     pub(crate) fn forget_changes(&mut self) {
         for name in self.taken.iter() {
-            self.site.store().forget_change(name.as_str());
+            self.store().forget_change(name.as_str());
         }
         self.taken.clear();
     }
@@ -171,20 +176,20 @@ impl<'a> Server<'a> {
     /// Takes in what the operator has changed of a match: it may be new, or gone. What a database
     /// has of such a match doesn't count.
     fn take_change(&mut self, name: &str) -> io::Result<()> {
-        match self.site.store().changed(name) {
+        match self.store().changed(name) {
             Ok(Some(changed)) => {
                 if self.site.change(name, changed) {
-                    return self.site.store().note_changed(name);
+                    return self.store().note_changed(name);
                 }
                 if is_name(name) {
-                    self.site.store().note_new(name)?;
+                    self.store().note_new(name)?;
                     self.open(name)?;
                 }
                 Ok(())
             }
             Ok(None) => {
                 self.site.remove(name);
-                self.site.store().note_gone(name)
+                self.store().note_gone(name)
             }
             Err(error) => Err(error),
         }
@@ -193,7 +198,7 @@ impl<'a> Server<'a> {
     /// Takes in what another server has made of a match, which the folder and the turn have. What
     /// can't be read isn't served any more, since nobody knows which of it is saved.
     pub(crate) fn renew(&mut self, name: &str) {
-        let is_there = match self.site.store().find(name) {
+        let is_there = match self.store().find(name) {
             Ok(Some((found, None))) => self.site.replace(Box::into_inner(found)),
             _ => false,
         };
