@@ -6,7 +6,7 @@ use bg_options::{Request, RequestFault, command_line};
 use bg_system::NameFault;
 use clap::ArgMatches;
 use clap::error::ErrorKind;
-use requests::{is_between_processes, is_converted, is_in_one_process, is_of_files, is_shown};
+use requests::is_asked;
 use std::test::Fail;
 
 /// The words of commands, without the program's name.
@@ -154,16 +154,7 @@ fn asks(rt: &impl AllocGlobal, row: usize, words: &[&str]) -> Result<bool, Fail>
     line.push("bg_relay")?;
     line.extend_from_slice(words)?;
     let matches = matches_of(rt, &line)?;
-    Ok(match Request::read(&matches) {
-        Ok(request) => {
-            is_of_files(row, &request)
-                || is_converted(row, &request)
-                || is_shown(row, &request)
-                || is_in_one_process(row, &request)
-                || is_between_processes(row, &request)
-        }
-        Err(_) => false,
-    })
+    Ok(Request::read(&matches).is_ok_and(|request| is_asked(row, &request)))
 }
 
 #[test]
