@@ -11,7 +11,7 @@ use crate::save_counts::{SaveCounts, micros_since};
 use crate::troubles::Trouble;
 use crate::turn_saves::TurnSaves;
 use crate::watches::Watch;
-use bg_etcd::{Changes, Fault, removal_text, taken_in, transaction_text};
+use bg_etcd::{Changes, Fault};
 use bg_journal::Change;
 use mio::{Events, Poll};
 use std::alloc::AllocError;
@@ -174,58 +174,6 @@ impl<'a> Cluster<'a> {
         }
         fresh.clear();
         Ok(())
-    }
-
-    /// Puts and removes all that is to be.
-    fn put_all(&mut self) -> Result<(), Trouble> {
-        for _ in 0..u64::MAX {
-            if !self.pending.removals.is_empty() {
-                self.put_removal()?;
-            } else if !self.pending.changes.is_empty() {
-                self.put_some()?;
-            } else {
-                break;
-            }
-        }
-        Ok(())
-    }
-
-    /// Removes a match from the store, whatever others have made of it meanwhile. It is compared
-    /// nevertheless, so that a request which comes late removes no match that was restored.
-    fn put_removal(&mut self) -> Result<(), Trouble> {
-        let alloc = self.rt.alloc();
-        let Some(removal) = self.pending.removals.last() else {
-            return Ok(());
-        };
-        let text = removal_text(alloc, removal.folder.as_str(), removal.known)?;
-        let (status, body) = self.ask_awhile("/v3/kv/txn", text.as_str())?;
-        let taken = taken_in(alloc, status, &body)?;
-        self.check_age(taken.revision)?;
-        if taken.is_taken || taken.files.is_empty() {
-            self.note_removed(taken.revision)?;
-        } else if let Some(removal) = self.pending.removals.last_mut() {
-            removal.known = taken.revision;
-        }
-        Ok(())
-    }
-
-    /// Puts what matches have saved, as many as go into one transaction.
-    fn put_some(&mut self) -> Result<(), Trouble> {
-        let alloc = self.rt.alloc();
-        let count = self.pending.batch();
-        let some = self.pending.changes.get(..count).unwrap_or_default();
-        let text = transaction_text(alloc, some)?;
-        let (status, body) = self.ask_awhile("/v3/kv/txn", text.as_str())?;
-        let taken = taken_in(alloc, status, &body)?;
-        self.check_age(taken.revision)?;
-        if taken.is_taken {
-            return self.note_taken(count, taken.revision);
-        }
-        if count > 1 {
-            self.pending.part(count);
-            return Ok(());
-        }
-        self.note_refused(taken)
     }
 
     /// Writes the files that are older than the store, once a second.

@@ -1,14 +1,66 @@
-//! What came of putting things into a store.
+//! How things are put into a store, and what came of it.
 
 use crate::clusters::Cluster;
 use crate::copies::is_slot_name;
 use crate::troubles::Trouble;
-use bg_etcd::{Changes, File, Taken};
+use bg_etcd::{Changes, File, Taken, removal_text, taken_in, transaction_text};
 use std::alloc::{AllocError, Global};
 
 impl<'a> Cluster<'a> {
+    /// Puts and removes all that is to be.
+    pub(crate) fn put_all(&mut self) -> Result<(), Trouble> {
+        for _ in 0..u64::MAX {
+            if !self.pending.removals.is_empty() {
+                self.put_removal()?;
+            } else if !self.pending.changes.is_empty() {
+                self.put_some()?;
+            } else {
+                break;
+            }
+        }
+        Ok(())
+    }
+
+    /// Removes a match from the store, whatever others have made of it meanwhile. It is compared
+    /// nevertheless, so that a request which comes late removes no match that was restored.
+    fn put_removal(&mut self) -> Result<(), Trouble> {
+        let alloc = self.rt.alloc();
+        let Some(removal) = self.pending.removals.last() else {
+            return Ok(());
+        };
+        let text = removal_text(alloc, removal.folder.as_str(), removal.known)?;
+        let (status, body) = self.ask_awhile("/v3/kv/txn", text.as_str())?;
+        let taken = taken_in(alloc, status, &body)?;
+        self.check_age(taken.revision)?;
+        if taken.is_taken || taken.files.is_empty() {
+            self.note_removed(taken.revision)?;
+        } else if let Some(removal) = self.pending.removals.last_mut() {
+            removal.known = taken.revision;
+        }
+        Ok(())
+    }
+
+    /// Puts what matches have saved, as many as go into one transaction.
+    fn put_some(&mut self) -> Result<(), Trouble> {
+        let alloc = self.rt.alloc();
+        let count = self.pending.batch();
+        let some = self.pending.changes.get(..count).unwrap_or_default();
+        let text = transaction_text(alloc, some)?;
+        let (status, body) = self.ask_awhile("/v3/kv/txn", text.as_str())?;
+        let taken = taken_in(alloc, status, &body)?;
+        self.check_age(taken.revision)?;
+        if taken.is_taken {
+            return self.note_taken(count, taken.revision);
+        }
+        if count > 1 {
+            self.pending.part(count);
+            return Ok(());
+        }
+        self.note_refused(taken)
+    }
+
     /// Notes that the last of the removals was made at a revision.
-    pub(crate) fn note_removed(&mut self, revision: u64) -> Result<(), Trouble> {
+    fn note_removed(&mut self, revision: u64) -> Result<(), Trouble> {
         let Some(removal) = self.pending.removals.last() else {
             return Ok(());
         };
@@ -32,7 +84,7 @@ impl<'a> Cluster<'a> {
     }
 
     /// Notes that the first matches were put. Files beside slots have come from the folder.
-    pub(crate) fn note_taken(&mut self, count: usize, revision: u64) -> Result<(), Trouble> {
+    fn note_taken(&mut self, count: usize, revision: u64) -> Result<(), Trouble> {
         for _ in 0..count {
             let Some(changes) = self.pending.take_first() else {
                 break;
@@ -49,7 +101,7 @@ impl<'a> Cluster<'a> {
 
     /// Notes that the first match was refused: another server went on with it, unless what it has
     /// is what was to be put, as where an answer was lost.
-    pub(crate) fn note_refused(&mut self, taken: Taken) -> Result<(), Trouble> {
+    fn note_refused(&mut self, taken: Taken) -> Result<(), Trouble> {
         let Some(changes) = self.pending.changes.first() else {
             return Ok(());
         };

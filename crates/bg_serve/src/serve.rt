@@ -29,9 +29,8 @@ pub fn run(rt: &HostRuntime, options: ServeOptions<'_>) -> Result<Ending, Ending
     let ServeOptions {
         folder,
         port,
-        idle_hours,
-        tells_requests,
         database,
+        ..
     } = options;
     check_of_all(rt, folder)?;
     let _lock = own_folder(rt, folder)?;
@@ -44,12 +43,18 @@ pub fn run(rt: &HostRuntime, options: ServeOptions<'_>) -> Result<Ending, Ending
         Ok(begun) => begun,
         Err(why) => return Err(not_begun(rt, port, database.unwrap_or_default(), why)),
     };
-    server.site.set_idle(u64::from(idle_hours) * 60);
+    set_up(&mut server, &options);
     tell_begin(rt, &server);
-    if tells_requests {
+    go_on(rt, &mut server, &mut database, options, &failures)
+}
+
+/// Lists matches apart once nobody has acted for as long as the options say, and keeps a log of
+/// requests where these are told.
+pub(crate) fn set_up(server: &mut Server<'_>, options: &ServeOptions<'_>) {
+    server.site.set_idle(u64::from(options.idle_hours) * 60);
+    if options.tells_requests {
         server.site.keep_log();
     }
-    go_on(rt, &mut server, &mut database, options, &failures)
 }
 
 /// Reports why the matches of a folder can't be served at a port, or with a database.

@@ -216,9 +216,10 @@ impl<'a> Server<'a> {
 
     /// Returns how many matches have ended since this was asked last.
     pub fn ended(&mut self) -> u64 {
-        let ended = self.site.ended().saturating_sub(self.ended);
-        self.ended = self.site.ended();
-        ended
+        let ended = self.site.ended();
+        let fresh = ended.saturating_sub(self.ended);
+        self.ended = ended;
+        fresh
     }
 
     /// Returns the address that it listens on.

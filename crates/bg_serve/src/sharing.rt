@@ -4,7 +4,7 @@ use crate::cluster_words::{not_joined, tell_long, tell_lost, tell_trouble, tell_
 use crate::clusters::Cluster;
 use crate::folders::FolderStore;
 use crate::joining::{Unjoined, join};
-use crate::serve::{not_begun, tell_begin, tell_turn, waited};
+use crate::serve::{not_begun, set_up, tell_begin, tell_turn, waited};
 use crate::servers::Server;
 use crate::settling::Unusable;
 use crate::sockets::Sockets;
@@ -45,10 +45,7 @@ pub(crate) fn run_shared<'a>(
         Ok(server) => server,
         Err(error) => return Err(not_joined(rt, options.folder, words, &Unjoined::from(error))),
     };
-    server.site.set_idle(u64::from(options.idle_hours) * 60);
-    if options.tells_requests {
-        server.site.keep_log();
-    }
+    set_up(&mut server, options);
     let mut shared = Shared {
         rt,
         cluster,

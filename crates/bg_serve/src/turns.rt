@@ -38,10 +38,11 @@ impl<'a> Server<'a> {
         if self.site.has_news() {
             self.send_news(now)?;
         }
-        let made = self.site.made().saturating_sub(self.made);
-        self.made = self.site.made();
-        self.quota.take(made);
-        Ok(made)
+        let made = self.site.made();
+        let fresh = made.saturating_sub(self.made);
+        self.made = made;
+        self.quota.take(fresh);
+        Ok(fresh)
     }
 
     /// Waits until a socket is ready, or time has come for something else. Where connections may
