@@ -1,9 +1,8 @@
 //! How a server reads all that a store has: at its start, and where it may have missed changes.
 
 use crate::clusters::Cluster;
-use crate::copies::parts_of;
-use crate::troubles::Trouble;
 use bg_etcd::{File, Page, page_in, page_text};
+use bg_stores::{Trouble, parts_of};
 
 /// The files of the match at hand, as far as they were read, and what was found of all matches.
 #[derive(Drop)]

@@ -1,11 +1,11 @@
 //! The words on stores that several servers share.
 
 use crate::joining::Unjoined;
-use crate::troubles::Trouble;
 use bg_console::{failed, say, wrong};
 use bg_etcd::Fault;
 use bg_processes::Printable;
 use bg_reports::Ending;
+use bg_stores::Trouble;
 use std::io::ErrorKind;
 
 /// Reports why a server can't share the matches of a store.

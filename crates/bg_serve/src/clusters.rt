@@ -2,17 +2,10 @@
 //! save in a turn is put there, each match by one comparison with the newest that this server knows
 //! of it, and only then is anybody told (docs/SERVING.md, "Several servers").
 
-use crate::copies::Copies;
-use crate::known::Known;
-use crate::lines::Answer;
-use crate::members::Members;
-use crate::pending::Pending;
 use crate::save_counts::{SaveCounts, micros_since};
-use crate::troubles::Trouble;
-use crate::turn_saves::TurnSaves;
-use crate::watches::Watch;
 use bg_etcd::{Changes, Fault};
 use bg_journal::Change;
+use bg_stores::{Answer, Copies, Known, Members, Pending, Trouble, TurnSaves, Watch};
 use mio::{Events, Poll};
 use std::alloc::AllocError;
 use std::io;

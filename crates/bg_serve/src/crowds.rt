@@ -3,8 +3,8 @@
 use crate::clients::Client;
 use crate::limits::MOST_CLIENTS;
 use crate::servers::{LISTENER, Server};
-use crate::watches::WATCH;
 use bg_site::Step;
+use bg_stores::WATCH;
 use mio::net::TcpStream;
 use mio::{Interest, Token};
 use std::hash::RandomState;

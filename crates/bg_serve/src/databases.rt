@@ -5,12 +5,11 @@
 
 use crate::fence::{Fence, Unsaved};
 use crate::folders::FolderStore;
-use crate::followers::overwrite;
 use crate::save_counts::{SaveCounts, micros_since};
 use crate::settling::{NOT_THERE, Unusable, begin};
-use crate::turn_saves::TurnSaves;
 use bg_console::path_in;
 use bg_journal::{Change, FileText, Journal};
+use bg_stores::{TurnSaves, overwrite};
 use mio::{Events, Poll};
 use std::alloc::AllocError;
 use std::io;

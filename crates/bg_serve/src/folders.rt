@@ -1,18 +1,16 @@
 //! The folders of matches: each lies in the folder that is served, and has the files of a match as
 //! everywhere.
 
-use crate::changes::{forget_change, take_changes};
-use crate::marks::{is_hidden, quiet_minutes};
 use crate::save_counts::SaveCounts;
 use crate::seat_files::read_seats;
 use crate::served_files::ServedFiles;
 use crate::served_keepers::ServedKeeper;
-use crate::turn_saves::{TurnSaves, TurnSlots};
 use bg_console::path_in;
 use bg_dice::{digest_of, read_digest};
 use bg_match::{Record, Terms};
 use bg_processes::{Failures, FolderLock, NamedMatch, Names, read_secret};
 use bg_site::{Changed, Found, Made, Saves, Seats, Store};
+use bg_stores::{TurnSaves, TurnSlots, forget_change, is_hidden, quiet_minutes, take_changes};
 use bg_wire::{REFEREE, SEAT_OF_O, SEAT_OF_X};
 use bg_world::Keepers;
 use std::alloc::AllocError;

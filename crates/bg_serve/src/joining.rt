@@ -2,14 +2,11 @@
 //! store it is a copy; the store has the same digits.
 
 use crate::clusters::Cluster;
-use crate::copies::{BESIDE_SLOTS, Copies, SLOTS};
 use crate::folders::FolderStore;
-use crate::members::{Members, hosts_in};
 use crate::seat_files::random_digits;
 use crate::settling::{CLUSTER, read_mark, write_mark};
-use crate::troubles::Trouble;
-use crate::turn_saves::TurnSaves;
 use bg_etcd::{Changes, File, taken_in, transaction_text};
+use bg_stores::{BESIDE_SLOTS, Copies, Members, SLOTS, Trouble, TurnSaves, hosts_in};
 use std::alloc::AllocError;
 use std::io;
 

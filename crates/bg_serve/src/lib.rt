@@ -10,34 +10,23 @@
 //! ```
 #![tactic(auto)]
 
-mod backups;
-mod behind;
 mod catching_up;
-mod changes;
 mod clients;
 mod cluster_words;
 mod clusters;
-mod copies;
 mod crowds;
 mod database_words;
 mod databases;
 mod exchanges;
 mod fence;
 mod folders;
-mod followers;
 mod joining;
-mod known;
 mod limits;
-mod lines;
 mod live_clients;
-mod long_texts;
 mod making;
 pub mod manage;
-mod marks;
-mod members;
 mod news;
 mod notes;
-mod pending;
 mod placing;
 mod putting;
 mod quotas;
@@ -52,11 +41,8 @@ mod settling;
 mod sharing;
 mod sockets;
 mod tables;
-mod troubles;
-mod turn_saves;
 mod turns;
 mod visitors;
-mod watches;
 
 pub use folders::FolderStore;
 pub use limits::{

@@ -1,10 +1,8 @@
 //! What other servers have made of the matches: a watch of the store tells it.
 
 use crate::clusters::Cluster;
-use crate::copies::{MATCH, parts_of};
-use crate::troubles::Trouble;
-use crate::watches::{Told, Watch};
 use bg_etcd::{Event, File, put_text, revision_in};
+use bg_stores::{MATCH, Told, Trouble, Watch, parts_of};
 use mio::Registry;
 
 /// Where no watch has told anything for more than so many seconds, something is written that it is

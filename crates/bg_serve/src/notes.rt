@@ -1,9 +1,9 @@
 //! What a database or a store is told of the folders of matches, beside what the parties save.
 
-use crate::copies::{BESIDE_SLOTS, Copies, SLOTS};
 use crate::folders::FolderStore;
 use bg_etcd::{File, MOST_BYTES};
 use bg_journal::{Change, FileText};
+use bg_stores::{BESIDE_SLOTS, Copies, SLOTS};
 use bg_world::DeviceFault;
 use std::io;
 use std::io::ErrorKind;

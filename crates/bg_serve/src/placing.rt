@@ -1,11 +1,10 @@
 //! How the folder of a server gets what the store has.
 
 use crate::clusters::Cluster;
-use crate::copies::{SLOTS, is_slot, parts_of};
-use crate::troubles::Trouble;
 use bg_console::path_in;
 use bg_etcd::File;
 use bg_journal::{Change, FileText};
+use bg_stores::{SLOTS, Trouble, is_slot, parts_of};
 
 impl<'a> Cluster<'a> {
     /// Takes in a match as the store has it at a revision: its files, or that it has none.

@@ -1,9 +1,8 @@
 //! How things are put into a store, and what came of it.
 
 use crate::clusters::Cluster;
-use crate::copies::is_slot_name;
-use crate::troubles::Trouble;
 use bg_etcd::{Changes, File, Taken, removal_text, taken_in, transaction_text};
+use bg_stores::{Trouble, is_slot_name};
 use std::alloc::{AllocError, Global};
 
 impl<'a> Cluster<'a> {

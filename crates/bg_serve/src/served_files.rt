@@ -1,8 +1,8 @@
 //! The files of a party of a match that is served.
 
 use crate::save_counts::{SaveCounts, micros_since};
-use crate::turn_saves::TurnSlots;
 use bg_processes::{Failures, FileKeeper};
+use bg_stores::TurnSlots;
 use bg_wire::Slot;
 use bg_world::{DeviceFault, Keeper};
 use std::alloc::AllocError;

@@ -8,10 +8,10 @@ use crate::serve::{not_begun, set_up, tell_begin, tell_turn, waited};
 use crate::servers::Server;
 use crate::settling::Unusable;
 use crate::sockets::Sockets;
-use crate::troubles::Trouble;
 use bg_options::ServeOptions;
 use bg_processes::Failures;
 use bg_reports::Ending;
+use bg_stores::Trouble;
 
 /// A store, and what was said of it.
 #[derive(Drop)]

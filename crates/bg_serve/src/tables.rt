@@ -1,14 +1,12 @@
 //! What an operator does with the matches in a folder, whether a server runs over it or not.
 
-use crate::backups::copy_match;
-use crate::changes::tell_change;
-use crate::marks::{hide, show};
 use crate::seat_files::{random_digits, read_seats, replace_seat};
 use bg_board::Player;
 use bg_console::{allocated, path_in, wrong_at};
 use bg_processes::{NamedMatch, Names};
 use bg_reports::Ending;
 use bg_requests::is_name;
+use bg_stores::{copy_match, hide, show, tell_change};
 use std::fs::{DirBuilder, File};
 use std::io::ErrorKind;
 use std::os::unix::fs::DirBuilderExt;

@@ -12,6 +12,7 @@ use bg_requests::{Message, Part, Target, is_key_of_order, parse_message, target_
 use bg_serve::Server;
 use bg_site::{Found, Made, Site, Store};
 use bg_states::state_text;
+use bg_stores::{Known, parts_of};
 use bg_system::Names;
 use http_server::{Config, Connection, Response};
 use std::hash::RandomState;
@@ -151,6 +152,21 @@ fn journals(rt: HostRuntime) -> Result<(), Fail> {
     let text = b"one".to_vec(alloc)?;
     journal.write(&[Change::Put(FileText { name, text })])?;
     assert!(rt; journal.find("a/1")?.is_some() && journal.find("a")?.is_none());
+    // end
+    Ok(())
+}
+
+#[test]
+fn stores(rt: HostRuntime) -> Result<(), Fail> {
+    let alloc = rt.alloc();
+    // bg_stores
+    // A folder counts as known up to the greatest revision that was noted of it.
+    let mut known = Known::nothing(alloc);
+    known.note("anna", 7)?;
+    known.note("anna", 5)?;
+    assert!(rt; known.of("anna") == 7 && known.of("otto") == 0);
+    // The parts of a file's name: its folder, and its name there.
+    assert!(rt; parts_of("anna/party-0.1") == Some(("anna", "party-0.1")));
     // end
     Ok(())
 }

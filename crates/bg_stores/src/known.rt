@@ -12,7 +12,7 @@ struct KnownFolder {
 
 /// The folders that are known.
 #[derive(Drop)]
-pub(crate) struct Known {
+pub struct Known {
     alloc: Global,
     /// By their names, each once.
     folders: Vec<KnownFolder>,
@@ -20,7 +20,7 @@ pub(crate) struct Known {
 
 impl Known {
     /// Knows no folder.
-    pub(crate) fn nothing(alloc: Global) -> Known {
+    pub fn nothing(alloc: Global) -> Known {
         Known {
             alloc,
             folders: Vec::new(alloc),
@@ -36,7 +36,7 @@ impl Known {
     }
 
     /// Returns the revision up to which a folder is known; 0 where there is none.
-    pub(crate) fn of(&self, name: &str) -> u64 {
+    pub fn of(&self, name: &str) -> u64 {
         match self.folders.get(self.place_of(name)) {
             Some(folder) if folder.name.as_str() == name => folder.revision,
             _ => 0,
@@ -44,7 +44,10 @@ impl Known {
     }
 
     /// Notes up to which revision a folder is known.
-    pub(crate) fn note(&mut self, name: &str, revision: u64) -> Result<(), AllocError> {
+    ///
+    /// # Errors
+    /// `AllocError` where there is no memory for its name.
+    pub fn note(&mut self, name: &str, revision: u64) -> Result<(), AllocError> {
         let place = self.place_of(name);
         match self.folders.get_mut(place) {
             Some(folder) if folder.name.as_str() == name => {
@@ -60,12 +63,15 @@ impl Known {
     }
 
     /// Notes that a folder is gone.
-    pub(crate) fn forget(&mut self, name: &str) {
+    pub fn forget(&mut self, name: &str) {
         self.folders.retain(|folder| folder.name.as_str() != name);
     }
 
     /// Returns the names of the folders that are known up to no revision from this one on.
-    pub(crate) fn older_than(&self, revision: u64) -> Result<Vec<String>, AllocError> {
+    ///
+    /// # Errors
+    /// `AllocError` where there is no memory for the names.
+    pub fn older_than(&self, revision: u64) -> Result<Vec<String>, AllocError> {
         let mut names = Vec::new(self.alloc);
         for folder in self.folders.iter() {
             if folder.revision < revision {

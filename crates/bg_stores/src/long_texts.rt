@@ -16,14 +16,14 @@ struct LongMatch {
 
 /// The matches whose texts came near the most.
 #[derive(Drop)]
-pub(crate) struct LongTexts {
+pub struct LongTexts {
     alloc: Global,
     found: RefCell<Vec<LongMatch>>,
 }
 
 impl LongTexts {
     /// Returns that no text came near.
-    pub(crate) fn none(alloc: Global) -> LongTexts {
+    pub fn none(alloc: Global) -> LongTexts {
         LongTexts {
             alloc,
             found: RefCell::new(Vec::new(alloc)),
@@ -32,7 +32,11 @@ impl LongTexts {
 
     /// Refuses the text of a file that is beyond the most, and notes its match; also where it comes
     /// near.
-    pub(crate) fn check(&self, file: &str, length: usize) -> Result<(), DeviceFault> {
+    ///
+    /// # Errors
+    /// `Failed` where the text is beyond the most, and `Memory` where there is none to note its
+    /// match.
+    pub fn check(&self, file: &str, length: usize) -> Result<(), DeviceFault> {
         if length >= NEAR_TEXT {
             let name = file.split('/').next().unwrap_or(file);
             self.note(name, length > MOST_TEXT)?;
@@ -62,7 +66,7 @@ impl LongTexts {
     }
 
     /// Returns whether nothing more of a match is saved.
-    pub(crate) fn is_full(&self, name: &str) -> bool {
+    pub fn is_full(&self, name: &str) -> bool {
         let Ok(found) = self.found.try_borrow() else {
             return false;
         };
@@ -72,14 +76,14 @@ impl LongTexts {
     }
 
     /// Forgets a match, of which there is another state now.
-    pub(crate) fn forget(&self, name: &str) {
+    pub fn forget(&self, name: &str) {
         if let Ok(mut found) = self.found.try_borrow_mut() {
             found.retain(|long| long.name.as_str() != name);
         }
     }
 
     /// Returns the name of the next match that was not told yet, and whether it is full.
-    pub(crate) fn next_untold(&self) -> Option<(String, bool)> {
+    pub fn next_untold(&self) -> Option<(String, bool)> {
         let Ok(mut found) = self.found.try_borrow_mut() else {
             return None;
         };

@@ -8,19 +8,19 @@ use std::alloc::Global;
 
 /// What is to be put into a store.
 #[derive(Drop)]
-pub(crate) struct Pending {
+pub struct Pending {
     alloc: Global,
     /// What each match is to have.
-    pub(crate) changes: Vec<Changes>,
+    pub changes: Vec<Changes>,
     /// How many of those go by themselves: a transaction with all of them was refused.
     alone: usize,
     /// The matches that are to be removed, and how they are known. They come before the changes.
-    pub(crate) removals: Vec<Changes>,
+    pub removals: Vec<Changes>,
 }
 
 impl Pending {
     /// Returns that nothing is to be put.
-    pub(crate) fn nothing(alloc: Global) -> Pending {
+    pub fn nothing(alloc: Global) -> Pending {
         Pending {
             alloc,
             changes: Vec::new(alloc),
@@ -30,15 +30,15 @@ impl Pending {
     }
 
     /// Returns whether nothing is to be put or removed.
-    pub(crate) fn is_empty(&self) -> bool {
+    pub fn is_empty(&self) -> bool {
         self.changes.is_empty() && self.removals.is_empty()
     }
 
     /// Adds a copy of a file, in place of an older one.
     ///
     /// # Errors
-    /// Memory.
-    pub(crate) fn add_file(&mut self, known: &Known, file: &FileText) -> Result<(), Trouble> {
+    /// `Memory` alone, as a fault of the store.
+    pub fn add_file(&mut self, known: &Known, file: &FileText) -> Result<(), Trouble> {
         let Some((folder, _)) = file.name.as_str().split_once('/') else {
             return Ok(());
         };
@@ -61,8 +61,8 @@ impl Pending {
     /// Adds a match to those that are to be removed. What was to be put of it isn't any more.
     ///
     /// # Errors
-    /// Memory.
-    pub(crate) fn add_removal(&mut self, known: &Known, folder: &str) -> Result<(), Trouble> {
+    /// `Memory` alone, as a fault of the store.
+    pub fn add_removal(&mut self, known: &Known, folder: &str) -> Result<(), Trouble> {
         self.changes
             .retain(|changes| changes.folder.as_str() != folder);
         self.removals
@@ -71,7 +71,7 @@ impl Pending {
     }
 
     /// Returns how many matches the next transaction has: as many as fit into one.
-    pub(crate) fn batch(&self) -> usize {
+    pub fn batch(&self) -> usize {
         if self.alone > 0 {
             return 1;
         }
@@ -85,12 +85,12 @@ impl Pending {
     }
 
     /// Has the first matches go by themselves.
-    pub(crate) fn part(&mut self, count: usize) {
+    pub fn part(&mut self, count: usize) {
         self.alone = count;
     }
 
     /// Takes the first match, which is done with.
-    pub(crate) fn take_first(&mut self) -> Option<Changes> {
+    pub fn take_first(&mut self) -> Option<Changes> {
         if self.changes.is_empty() {
             return None;
         }

@@ -13,16 +13,16 @@ use std::rc::Rc;
 /// The changes of files that are not durable yet, in their order, and those that are durable in the
 /// database while their files may be older.
 #[derive(Drop)]
-pub(crate) struct TurnSaves {
-    pub(crate) fresh: RefCell<Vec<Change>>,
-    pub(crate) behind: RefCell<Behind>,
+pub struct TurnSaves {
+    pub fresh: RefCell<Vec<Change>>,
+    pub behind: RefCell<Behind>,
     /// The matches that come near the most that a store takes, where there is one.
-    pub(crate) long: Option<LongTexts>,
+    pub long: Option<LongTexts>,
 }
 
 impl TurnSaves {
     /// Creates a turn without saves.
-    pub(crate) fn new(alloc: Global) -> TurnSaves {
+    pub fn new(alloc: Global) -> TurnSaves {
         TurnSaves {
             fresh: RefCell::new(Vec::new(alloc)),
             behind: RefCell::new(Behind::new(alloc)),
@@ -31,7 +31,7 @@ impl TurnSaves {
     }
 
     /// Creates a turn without saves, of a server that shares its matches.
-    pub(crate) fn shared(alloc: Global) -> TurnSaves {
+    pub fn shared(alloc: Global) -> TurnSaves {
         TurnSaves {
             long: Some(LongTexts::none(alloc)),
             ..TurnSaves::new(alloc)
@@ -39,7 +39,10 @@ impl TurnSaves {
     }
 
     /// Adds a change.
-    pub(crate) fn add(&self, change: Change) -> Result<(), DeviceFault> {
+    ///
+    /// # Errors
+    /// `Failed` where the changes are in use, and `Memory` where there is none for another one.
+    pub fn add(&self, change: Change) -> Result<(), DeviceFault> {
         match self.fresh.try_borrow_mut() {
             Ok(mut fresh) => Ok(fresh.push(change)?),
             Err(_) => Err(DeviceFault::Failed),
@@ -64,7 +67,10 @@ impl TurnSaves {
     }
 
     /// Notes that the files of a match are gone.
-    pub(crate) fn remove(&self, alloc: Global, name: &str) -> Result<(), DeviceFault> {
+    ///
+    /// # Errors
+    /// As those of [`TurnSaves::add`].
+    pub fn remove(&self, alloc: Global, name: &str) -> Result<(), DeviceFault> {
         if let Some(long) = &self.long {
             long.forget(name);
         }
@@ -73,13 +79,16 @@ impl TurnSaves {
     }
 
     /// Returns whether nothing more of a match is saved, since it is too long for the store.
-    pub(crate) fn is_full(&self, name: &str) -> bool {
+    pub fn is_full(&self, name: &str) -> bool {
         self.long.as_ref().is_some_and(|long| long.is_full(name))
     }
 
     /// Returns the text that a file has in the database, or will have at the end of the turn, where
     /// the file itself may be older.
-    pub(crate) fn newest(&self, alloc: Global, name: &str) -> Result<Option<Vec<u8>>, DeviceFault> {
+    ///
+    /// # Errors
+    /// `Failed` where the changes are in use, and `Memory` where there is none for the text.
+    pub fn newest(&self, alloc: Global, name: &str) -> Result<Option<Vec<u8>>, DeviceFault> {
         let (Ok(fresh), Ok(behind)) = (self.fresh.try_borrow(), self.behind.try_borrow()) else {
             return Err(DeviceFault::Failed);
         };
@@ -105,7 +114,7 @@ fn is_put_of(change: &Change, name: &str) -> bool {
 
 /// The slots of a party whose saves are made durable with those of the turn.
 #[derive(Drop)]
-pub(crate) struct TurnSlots {
+pub struct TurnSlots {
     alloc: Global,
     saves: Rc<TurnSaves>,
     zero: String,
@@ -114,7 +123,10 @@ pub(crate) struct TurnSlots {
 
 impl TurnSlots {
     /// Creates the slots of a party of the match of this name.
-    pub(crate) fn new(
+    ///
+    /// # Errors
+    /// `AllocError` where there is no memory for the names of their files.
+    pub fn new(
         alloc: Global,
         saves: Rc<TurnSaves>,
         name: &str,
@@ -136,7 +148,11 @@ impl TurnSlots {
     }
 
     /// Adds the text of a slot to the saves of the turn.
-    pub(crate) fn write(&self, slot: Slot, text: &[u8]) -> Result<(), DeviceFault> {
+    ///
+    /// # Errors
+    /// `Failed` where the changes are in use or the text is beyond the most that a store takes, and
+    /// `Memory` where there is none for it.
+    pub fn write(&self, slot: Slot, text: &[u8]) -> Result<(), DeviceFault> {
         let name = String::from_str(self.alloc, self.name(slot))?;
         let text = text.to_vec(self.alloc)?;
         let other = match slot {
@@ -147,7 +163,10 @@ impl TurnSlots {
     }
 
     /// Returns the text of a slot where its file may be older.
-    pub(crate) fn newest(&self, slot: Slot) -> Result<Option<Vec<u8>>, DeviceFault> {
+    ///
+    /// # Errors
+    /// As those of [`TurnSaves::newest`].
+    pub fn newest(&self, slot: Slot) -> Result<Option<Vec<u8>>, DeviceFault> {
         self.saves.newest(self.alloc, self.name(slot))
     }
 }

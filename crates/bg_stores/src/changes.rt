@@ -32,7 +32,7 @@ const BETWEEN_LOOKS: u64 = 50;
 ///
 /// # Errors
 /// Why they could not be read.
-pub(crate) fn take_changes(rt: &HostRuntime, tables: &str) -> io::Result<Vec<String>> {
+pub fn take_changes(rt: &HostRuntime, tables: &str) -> io::Result<Vec<String>> {
     let folder = path_in(rt.alloc(), tables, CHANGES)?;
     let mut names: Vec<String> = Vec::new(rt.alloc());
     let entries = match fs::read_dir(rt, folder.as_str()) {
@@ -63,13 +63,17 @@ fn take_change(rt: &HostRuntime, folder: &str, mark: &str) -> io::Result<String>
 ///
 /// # Errors
 /// Why its mark could not be removed: it will be taken in again.
-pub(crate) fn forget_change(rt: &HostRuntime, tables: &str, name: &str) -> io::Result<()> {
+pub fn forget_change(rt: &HostRuntime, tables: &str, name: &str) -> io::Result<()> {
     let taken = taken_path(rt.alloc(), tables, name)?;
     fs::remove_file(rt, taken.as_str())
 }
 
-/// Returns whether the operator has changed a match, and that was not taken in yet, or is not saved.
-pub(crate) fn is_changed(rt: &HostRuntime, tables: &str, name: &str) -> io::Result<bool> {
+/// Returns whether the operator has changed a match, and that was not taken in yet, or is not
+/// saved.
+///
+/// # Errors
+/// `OutOfMemory` alone.
+pub fn is_changed(rt: &HostRuntime, tables: &str, name: &str) -> io::Result<bool> {
     let path = change_path(rt.alloc(), tables, name)?;
     let taken = taken_path(rt.alloc(), tables, name)?;
     // The server gives the mark its other name: so that one is looked for last.
@@ -98,7 +102,7 @@ fn taken_path(alloc: Global, tables: &str, name: &str) -> Result<String, AllocEr
 ///
 /// # Errors
 /// Why it could not be told.
-pub(crate) fn tell_change(rt: &HostRuntime, tables: &str, name: &str) -> io::Result<bool> {
+pub fn tell_change(rt: &HostRuntime, tables: &str, name: &str) -> io::Result<bool> {
     let folder = path_in(rt.alloc(), tables, CHANGES)?;
     DirBuilder::new()
         .recursive(true)

@@ -13,11 +13,11 @@ const A_WHILE: u64 = 500;
 const MOST_WAITS: u32 = 4;
 
 /// The answer of a member: its status and its body.
-pub(crate) type Answer = (u16, Vec<u8>);
+pub type Answer = (u16, Vec<u8>);
 
 /// A connection to a member. It is large, so it lies in a box.
 #[derive(Drop)]
-pub(crate) struct Line {
+pub struct Line {
     stream: TcpStream,
     exchange: Exchange,
     /// What it was asked, and has not answered yet.
@@ -28,7 +28,7 @@ pub(crate) struct Line {
 
 impl Line {
     /// Connects to a member.
-    pub(crate) fn open(rt: &HostRuntime, host: &str) -> Result<Box<Line>, Fault> {
+    pub fn open(rt: &HostRuntime, host: &str) -> Result<Box<Line>, Fault> {
         let wait = Duration::from_millis(A_WHILE);
         let mut fault = Fault::Away(ErrorKind::NotFound);
         for address in host.to_socket_addrs(rt)? {
@@ -57,20 +57,20 @@ impl Line {
     }
 
     /// Returns whether it waits for the answer to something else.
-    pub(crate) fn is_asked_else(&self, text: &str) -> bool {
+    pub fn is_asked_else(&self, text: &str) -> bool {
         self.asked
             .as_ref()
             .is_some_and(|asked| asked.as_str() != text)
     }
 
     /// Returns whether it can be asked something else.
-    pub(crate) fn is_idle(&self) -> bool {
+    pub fn is_idle(&self) -> bool {
         self.exchange.is_idle()
     }
 
     /// Asks the member, which is at `host`, unless it was asked the same already. Waits a while for
     /// the answer; returns None where it has not come.
-    pub(crate) fn ask(
+    pub fn ask(
         &mut self,
         alloc: Global,
         host: &str,

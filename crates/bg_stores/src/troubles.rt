@@ -6,7 +6,7 @@ use std::io;
 
 /// Why a server could not share what it has with others.
 #[derive(Drop)]
-pub(crate) enum Trouble {
+pub enum Trouble {
     /// The store could not be asked, or has refused.
     Store(Fault),
     /// The store has not answered yet: the same is to be asked again.

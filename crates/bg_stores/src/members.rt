@@ -7,7 +7,7 @@ use std::io::ErrorKind;
 
 /// The members of a cluster.
 #[derive(Drop)]
-pub(crate) struct Members<'a> {
+pub struct Members<'a> {
     rt: &'a HostRuntime,
     /// The address of each: its host and port.
     hosts: Vec<String>,
@@ -17,12 +17,12 @@ pub(crate) struct Members<'a> {
     /// How many members have failed since the last answer.
     failed: usize,
     /// Whether the last question was answered.
-    pub(crate) is_answering: bool,
+    pub is_answering: bool,
 }
 
 impl<'a> Members<'a> {
     /// Returns the members of these addresses, of which there is one at least.
-    pub(crate) fn new(rt: &'a HostRuntime, hosts: Vec<String>) -> Members<'a> {
+    pub fn new(rt: &'a HostRuntime, hosts: Vec<String>) -> Members<'a> {
         Members {
             rt,
             hosts,
@@ -34,7 +34,7 @@ impl<'a> Members<'a> {
     }
 
     /// Returns the address of the member at a place, counted round.
-    pub(crate) fn host_at(&self, place: usize) -> &str {
+    pub fn host_at(&self, place: usize) -> &str {
         let at = match place.checked_rem(self.hosts.len()) {
             Some(at) => at,
             None => 0,
@@ -46,7 +46,7 @@ impl<'a> Members<'a> {
     }
 
     /// Returns how often all members come before a place, counted round.
-    pub(crate) fn round_of(&self, place: usize) -> usize {
+    pub fn round_of(&self, place: usize) -> usize {
         place.checked_div(self.hosts.len()).unwrap_or(0)
     }
 
@@ -71,7 +71,7 @@ impl<'a> Members<'a> {
     ///
     /// # Errors
     /// Why the last of them did not. What was asked for may be done nevertheless, also later.
-    pub(crate) fn ask(&mut self, path: &str, text: &str) -> Result<Answer, Fault> {
+    pub fn ask(&mut self, path: &str, text: &str) -> Result<Answer, Fault> {
         for _ in 0..u64::MAX {
             if let Some(answer) = self.ask_awhile(path, text)? {
                 return Ok(answer);
@@ -82,7 +82,10 @@ impl<'a> Members<'a> {
 
     /// Asks as [`Members::ask`] does, but waits for one member only, and only for a while. Returns
     /// None where no answer has come then: whoever asks the same again goes on waiting.
-    pub(crate) fn ask_awhile(&mut self, path: &str, text: &str) -> Result<Option<Answer>, Fault> {
+    ///
+    /// # Errors
+    /// Why the last member that was asked gave no answer, where none has given one.
+    pub fn ask_awhile(&mut self, path: &str, text: &str) -> Result<Option<Answer>, Fault> {
         for _ in 0..self.hosts.len() {
             let fault = match self.ask_one(path, text) {
                 Ok(None) => return Ok(None),
@@ -142,7 +145,7 @@ impl<'a> Members<'a> {
 ///
 /// # Errors
 /// AllocError where there is no memory for them.
-pub(crate) fn hosts_in(alloc: Global, words: &str) -> Result<Option<Vec<String>>, AllocError> {
+pub fn hosts_in(alloc: Global, words: &str) -> Result<Option<Vec<String>>, AllocError> {
     let mut hosts = Vec::new(alloc);
     for host in words.split(',') {
         if !is_host(host) {

@@ -13,7 +13,7 @@ const OWNER_ALONE: u32 = 0o600;
 ///
 /// # Errors
 /// Why it could not be written.
-pub(crate) fn overwrite(rt: &HostRuntime, path: &str, text: &[u8]) -> io::Result<()> {
+pub fn overwrite(rt: &HostRuntime, path: &str, text: &[u8]) -> io::Result<()> {
     let mut file = OpenOptions::new()
         .write(true)
         .create(true)

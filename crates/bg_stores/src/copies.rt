@@ -15,7 +15,7 @@ use std::{fs, io};
 const FOLDER: u32 = 0o700;
 
 /// The file without which a folder is no match.
-pub(crate) const MATCH: &str = "match";
+pub const MATCH: &str = "match";
 
 /// The file that says who may play.
 const SEATS: &str = "seats";
@@ -29,10 +29,10 @@ const YES: &str = "yes";
 const NO: &str = "no";
 
 /// The files of a match that its parties don't write.
-pub(crate) const BESIDE_SLOTS: [&str; 5] = [MATCH, "secret", "dice", SEATS, HIDDEN];
+pub const BESIDE_SLOTS: [&str; 5] = [MATCH, "secret", "dice", SEATS, HIDDEN];
 
 /// The files that its parties write.
-pub(crate) const SLOTS: [&str; 6] = [
+pub const SLOTS: [&str; 6] = [
     "party-0.0",
     "party-0.1",
     "party-1.0",
@@ -43,7 +43,7 @@ pub(crate) const SLOTS: [&str; 6] = [
 
 /// Returns the name of the match and that of the file, where a name in the store is that of a file
 /// of a match.
-pub(crate) fn parts_of(name: &str) -> Option<(&str, &str)> {
+pub fn parts_of(name: &str) -> Option<(&str, &str)> {
     let (folder, file) = name.split_once('/')?;
     if is_name(folder) && (is_slot(file) || BESIDE_SLOTS.iter().any(|other| *other == file)) {
         Some((folder, file))
@@ -53,12 +53,12 @@ pub(crate) fn parts_of(name: &str) -> Option<(&str, &str)> {
 }
 
 /// Returns whether a file is one that a party writes.
-pub(crate) fn is_slot(file: &str) -> bool {
+pub fn is_slot(file: &str) -> bool {
     SLOTS.iter().any(|slot| *slot == file)
 }
 
 /// Returns whether the file of this name in the store is one that a party writes.
-pub(crate) fn is_slot_name(name: &str) -> bool {
+pub fn is_slot_name(name: &str) -> bool {
     match parts_of(name) {
         Some((_, file)) => is_slot(file),
         None => false,
@@ -67,9 +67,10 @@ pub(crate) fn is_slot_name(name: &str) -> bool {
 
 /// The folder of all matches, where it is a copy.
 #[derive(Clone, Copy)]
-pub(crate) struct Copies<'a> {
-    pub(crate) rt: &'a HostRuntime,
-    pub(crate) folder: &'a str,
+pub struct Copies<'a> {
+    pub rt: &'a HostRuntime,
+    /// The path of that folder.
+    pub folder: &'a str,
 }
 
 impl<'a> Copies<'a> {
@@ -77,7 +78,7 @@ impl<'a> Copies<'a> {
     ///
     /// # Errors
     /// Why it could not be written.
-    pub(crate) fn write(&self, folder: &str, file: &str, text: &[u8]) -> io::Result<()> {
+    pub fn write(&self, folder: &str, file: &str, text: &[u8]) -> io::Result<()> {
         let alloc = self.rt.alloc();
         let above = path_in(alloc, self.folder, folder)?;
         DirBuilder::new()
@@ -102,19 +103,19 @@ impl<'a> Copies<'a> {
     ///
     /// # Errors
     /// Why it could not be written.
-    pub(crate) fn write_named(&self, name: &str, text: &[u8]) -> io::Result<()> {
+    pub fn write_named(&self, name: &str, text: &[u8]) -> io::Result<()> {
         match parts_of(name) {
             Some((folder, file)) => self.write(folder, file, text),
             None => Ok(()),
         }
     }
 
-    /// Removes the folder of a match, if it is there. First it is given a name that no match has, so
-    /// that nothing is left of it where a kill comes.
+    /// Removes the folder of a match, if it is there. First it is given a name that no match has,
+    /// so that nothing is left of it where a kill comes.
     ///
     /// # Errors
     /// Why it could not be removed.
-    pub(crate) fn remove(&self, folder: &str) -> io::Result<()> {
+    pub fn remove(&self, folder: &str) -> io::Result<()> {
         let path = path_in(self.rt.alloc(), self.folder, folder)?;
         let gone = format!(in self.rt.alloc(); "{}.deleted", path.as_str())?;
         // What a kill has left of an earlier one is removed first.
@@ -130,7 +131,7 @@ impl<'a> Copies<'a> {
     ///
     /// # Errors
     /// Why it could not be removed.
-    pub(crate) fn remove_slot(&self, name: &str) -> io::Result<()> {
+    pub fn remove_slot(&self, name: &str) -> io::Result<()> {
         let path = path_in(self.rt.alloc(), self.folder, name)?;
         match fs::remove_file(self.rt, path.as_str()) {
             Err(error) if error.kind() == ErrorKind::NotFound => Ok(()),
@@ -142,7 +143,7 @@ impl<'a> Copies<'a> {
     ///
     /// # Errors
     /// Why it could not be removed.
-    pub(crate) fn remove_rest(&self, folder: &str) -> io::Result<()> {
+    pub fn remove_rest(&self, folder: &str) -> io::Result<()> {
         let above = path_in(self.rt.alloc(), self.folder, folder)?;
         let path = path_in(self.rt.alloc(), above.as_str(), MATCH)?;
         if fs::metadata(self.rt, path.as_str()).is_ok() {
@@ -154,8 +155,8 @@ impl<'a> Copies<'a> {
     /// Returns whether the operator has changed a match, and that was not taken in yet.
     ///
     /// # Errors
-    /// Memory.
-    pub(crate) fn is_changed(&self, folder: &str) -> io::Result<bool> {
+    /// `OutOfMemory` alone.
+    pub fn is_changed(&self, folder: &str) -> io::Result<bool> {
         is_changed(self.rt, self.folder, folder)
     }
 
@@ -163,7 +164,7 @@ impl<'a> Copies<'a> {
     ///
     /// # Errors
     /// Why the folder could not be read.
-    pub(crate) fn names(&self) -> io::Result<Vec<String>> {
+    pub fn names(&self) -> io::Result<Vec<String>> {
         let alloc = self.rt.alloc();
         let mut names = Vec::new(alloc);
         for entry in fs::read_dir(self.rt, self.folder)? {
@@ -176,7 +177,10 @@ impl<'a> Copies<'a> {
     }
 
     /// Returns whether a match has seats here.
-    pub(crate) fn has_seats(&self, folder: &str) -> io::Result<bool> {
+    ///
+    /// # Errors
+    /// Why the folder could not be read.
+    pub fn has_seats(&self, folder: &str) -> io::Result<bool> {
         let above = path_in(self.rt.alloc(), self.folder, folder)?;
         let seats = path_in(self.rt.alloc(), above.as_str(), SEATS)?;
         Ok(fs::metadata(self.rt, seats.as_str()).is_ok())
@@ -186,7 +190,7 @@ impl<'a> Copies<'a> {
     ///
     /// # Errors
     /// Why they could not be read.
-    pub(crate) fn files(&self, folder: &str, names: &[&str]) -> io::Result<Vec<File>> {
+    pub fn files(&self, folder: &str, names: &[&str]) -> io::Result<Vec<File>> {
         let mut files = Vec::new(self.rt.alloc());
         for file in names.iter() {
             if let Some(text) = self.text_of(folder, file)? {

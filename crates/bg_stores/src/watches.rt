@@ -8,14 +8,14 @@ use std::io::ErrorKind;
 use std::net::{SocketAddr, ToSocketAddrs};
 
 /// The token of the watch, which no client has.
-pub(crate) const WATCH: Token = Token(usize::MAX);
+pub const WATCH: Token = Token(usize::MAX);
 
 /// The most reads in one turn.
 const MOST_READS: u32 = 4096;
 
 /// A watch. It is large, so it lies in a box.
 #[derive(Drop)]
-pub(crate) struct Watch {
+pub struct Watch {
     alloc: Global,
     stream: TcpStream,
     exchange: Exchange,
@@ -23,7 +23,7 @@ pub(crate) struct Watch {
 
 /// What a watch has told.
 #[derive(Drop)]
-pub(crate) enum Told {
+pub enum Told {
     /// Changes, in their order; None where nothing has come, not even that the watch has begun.
     Events(Option<Vec<Event>>),
     /// It can't go on from where it was.
@@ -36,7 +36,7 @@ impl Watch {
     ///
     /// # Errors
     /// Why it can't be asked.
-    pub(crate) fn begin(
+    pub fn begin(
         rt: &HostRuntime,
         registry: &Registry,
         (host, round): (&str, usize),
@@ -68,7 +68,7 @@ impl Watch {
     ///
     /// # Errors
     /// Why nothing will come any more.
-    pub(crate) fn told(&mut self) -> Result<Told, Fault> {
+    pub fn told(&mut self) -> Result<Told, Fault> {
         if !self.send()? {
             return Ok(Told::Events(None));
         }

@@ -6,21 +6,24 @@ use std::alloc::{AllocError, Global};
 
 /// The newest text of each such file.
 #[derive(Drop)]
-pub(crate) struct Behind {
+pub struct Behind {
     /// By their names, each once.
-    pub(crate) files: Vec<FileText>,
+    pub files: Vec<FileText>,
 }
 
 impl Behind {
     /// Says of no file that it is behind.
-    pub(crate) fn new(alloc: Global) -> Behind {
+    pub fn new(alloc: Global) -> Behind {
         Behind {
             files: Vec::new(alloc),
         }
     }
 
     /// Makes room for so many files more.
-    pub(crate) fn reserve(&mut self, files: usize) -> Result<(), AllocError> {
+    ///
+    /// # Errors
+    /// `AllocError` where there is no memory for them.
+    pub fn reserve(&mut self, files: usize) -> Result<(), AllocError> {
         self.files.reserve(files)
     }
 
@@ -32,7 +35,7 @@ impl Behind {
     }
 
     /// Returns the newest text of a file that is behind.
-    pub(crate) fn text_of(&self, name: &str) -> Option<&[u8]> {
+    pub fn text_of(&self, name: &str) -> Option<&[u8]> {
         match self.files.get(self.place_of(name)) {
             Some(file) if file.name.as_str() == name => Some(&file.text),
             _ => None,
@@ -40,7 +43,7 @@ impl Behind {
     }
 
     /// Notes a change that is durable, for which there is room.
-    pub(crate) fn note(&mut self, change: Change) {
+    pub fn note(&mut self, change: Change) {
         match change {
             Change::Put(file) => self.put(file),
             Change::Remove(folder) => self
@@ -50,7 +53,7 @@ impl Behind {
     }
 
     /// Notes that a file is gone.
-    pub(crate) fn forget(&mut self, name: &str) {
+    pub fn forget(&mut self, name: &str) {
         self.files.retain(|file| file.name.as_str() != name);
     }
 

@@ -21,7 +21,7 @@ const OWNER_ALONE: u32 = 0o600;
 ///
 /// # Errors
 /// AllocError where there is no memory for a path, as of all functions here.
-pub(crate) fn is_hidden(rt: &HostRuntime, folder: &str) -> io::Result<bool> {
+pub fn is_hidden(rt: &HostRuntime, folder: &str) -> io::Result<bool> {
     let path = path_in(rt.alloc(), folder, HIDDEN)?;
     Ok(fs::metadata(rt, path.as_str()).is_ok())
 }
@@ -30,7 +30,7 @@ pub(crate) fn is_hidden(rt: &HostRuntime, folder: &str) -> io::Result<bool> {
 ///
 /// # Errors
 /// Why the file could not be written.
-pub(crate) fn hide(rt: &HostRuntime, folder: &str) -> io::Result<()> {
+pub fn hide(rt: &HostRuntime, folder: &str) -> io::Result<()> {
     let path = path_in(rt.alloc(), folder, HIDDEN)?;
     let file = OpenOptions::new()
         .write(true)
@@ -44,7 +44,7 @@ pub(crate) fn hide(rt: &HostRuntime, folder: &str) -> io::Result<()> {
 ///
 /// # Errors
 /// Why the file could not be removed.
-pub(crate) fn show(rt: &HostRuntime, folder: &str) -> io::Result<()> {
+pub fn show(rt: &HostRuntime, folder: &str) -> io::Result<()> {
     let path = path_in(rt.alloc(), folder, HIDDEN)?;
     match fs::remove_file(rt, path.as_str()) {
         Err(error) if error.kind() == ErrorKind::NotFound => Ok(()),
@@ -56,7 +56,7 @@ pub(crate) fn show(rt: &HostRuntime, folder: &str) -> io::Result<()> {
 ///
 /// # Errors
 /// Why the clock could not be read.
-pub(crate) fn quiet_minutes(rt: &HostRuntime, folder: &str) -> io::Result<u64> {
+pub fn quiet_minutes(rt: &HostRuntime, folder: &str) -> io::Result<u64> {
     let mut saved = 0;
     for slot in SLOTS {
         let path = path_in(rt.alloc(), folder, slot)?;

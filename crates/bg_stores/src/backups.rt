@@ -28,7 +28,7 @@ const SLOTS: [(u8, &str, &str); 3] = [
 ///
 /// # Errors
 /// Why it could not be copied; `Interrupted` where no copy was whole.
-pub(crate) fn copy_match(rt: &HostRuntime, from: &str, to: &str) -> io::Result<()> {
+pub fn copy_match(rt: &HostRuntime, from: &str, to: &str) -> io::Result<()> {
     DirBuilder::new().mode(FOLDER).create(rt, to)?;
     for _ in 0..MOST_COPIES {
         copy_files(rt, from, to)?;
