@@ -1,25 +1,19 @@
 //! The process of a seat, for the commands that play.
 
+mod opening;
+
 use crate::foreign_entries::{NOT_CHOSEN, first_foreign};
 use bg_board::Player;
-use bg_command_parts::{
-    Asked, Audience, FailureReporter, OwnSaves, SilenceReporter, check_seat_folder, socket_of,
-    stopped,
-};
-use bg_console::{
-    check_writable, no_memory, own_folder, say_failures, say_number, seat_key_file_of, waited,
-    waiting_for, wrong,
-};
+use bg_command_parts::{Asked, FailureReporter, OwnSaves, SilenceReporter, stopped};
+use bg_console::{say_number, waited};
 use bg_match::{Action, Number, Record};
-use bg_options::SeatOptions;
 use bg_processes::{
-    Failures, FileKeeper, FolderLock, Going, KeyFile, Keyring, Liveness, LivenessChange, MatchFile,
-    Names, PartySocket, Ready, SeatProcess, Ticking, Waiting,
+    FileKeeper, FolderLock, Going, Liveness, LivenessChange, MatchFile, Names, PartySocket, Ready,
+    SeatProcess, Ticking, Waiting,
 };
 use bg_reports::Ending;
 use bg_wire::party_of;
 use bg_world::Outcome;
-use std::fs;
 
 type Process<'a> = SeatProcess<PartySocket<'a, HostRuntime>, FileKeeper<'a, HostRuntime>>;
 
@@ -64,54 +58,6 @@ pub(crate) struct Round {
 }
 
 impl<'a> Seat<'a> {
-    /// Opens the seat that the options name, over a folder of its own. Its devices note their
-    /// failures in `failures`. It waits for standard input too if `with_input` is set. `audience`
-    /// is that of the standard error.
-    pub(crate) fn open(
-        rt: &'a HostRuntime,
-        failures: &'a Failures,
-        options: SeatOptions<'a>,
-        with_input: bool,
-        audience: Audience,
-    ) -> Result<Seat<'a>, Ending> {
-        let SeatOptions {
-            player,
-            match_path,
-            folder,
-        } = options;
-        let (player, key_file) = seat_key_file_of(rt, match_path, player)?;
-        let KeyFile {
-            table,
-            names,
-            party,
-            key,
-        } = key_file;
-        // First, as the folder may be locked because it is another party's.
-        check_seat_folder(rt, folder, player)?;
-        let keys = Keyring::OfParty(key);
-        let (lock, link) = folder_and_link(rt, folder, table.port, party, keys, failures)?;
-        let (waiting, ticking) = waiting_for(rt, link.descriptor(), with_input)?;
-        let process = begun_process(rt, failures, folder, player, &table, link)?;
-        let known = count_of(process.held());
-        Ok(Seat {
-            rt,
-            table,
-            player,
-            known,
-            has_foreign: false,
-            process,
-            names,
-            waiting,
-            folder,
-            reporter: FailureReporter::new(rt, failures, folder),
-            silence: SilenceReporter::new(rt, table, audience),
-            ticking,
-            liveness: Liveness::new(),
-            is_at_table: with_input,
-            _lock: lock,
-        })
-    }
-
     /// Waits, and runs the next round. Reports an entry in the player's name that the seat never
     /// claimed.
     pub(crate) fn next_round(&mut self) -> Result<Round, Ending> {
@@ -222,49 +168,6 @@ impl<'a> Seat<'a> {
     pub(crate) fn held(&self) -> Number {
         count_of(self.record())
     }
-}
-
-/// Locks the folder of a party, which it makes if there is none, and opens the party's socket. Where
-/// there is no socket, a folder that it made is removed again.
-fn folder_and_link<'a>(
-    rt: &'a HostRuntime,
-    folder: &str,
-    port: u16,
-    party: u8,
-    keys: Keyring,
-    failures: &'a Failures,
-) -> Result<(FolderLock, PartySocket<'a, HostRuntime>), Ending> {
-    let is_new = fs::metadata(rt, folder).is_err();
-    let lock = own_folder(rt, folder)?;
-    check_writable(rt, folder)?;
-    let link = socket_of(rt, port, party, keys, failures);
-    if is_new && link.is_err() {
-        let _ = fs::remove_dir(rt, folder);
-    }
-    Ok((lock, link?))
-}
-
-/// Begins the process of a seat over its folder and its socket.
-fn begun_process<'a>(
-    rt: &'a HostRuntime,
-    failures: &'a Failures,
-    folder: &str,
-    player: Player,
-    table: &MatchFile,
-    link: PartySocket<'a, HostRuntime>,
-) -> Result<Process<'a>, Ending> {
-    let Ok(keeper) = FileKeeper::new(rt, folder, party_of(player), failures) else {
-        return Err(no_memory(rt));
-    };
-    let begun = SeatProcess::begin(rt.alloc(), player, table.id, table.terms, link, keeper);
-    say_failures(rt, failures, folder);
-    let Ok((process, outcome)) = begun else {
-        return Err(wrong(rt, "length out of range"));
-    };
-    if outcome != Outcome::Restarted {
-        return Err(stopped(rt, saves_of(folder, player, table), &outcome));
-    }
-    Ok(process)
 }
 
 /// Returns the saves of a player's seat of a match in a folder.
