@@ -19,7 +19,8 @@ pub(crate) fn check_number(rt: &impl Abort, what: &str, number: usize, holds: bo
     assert!(rt; holds, "{what} {number}");
 }
 
-fn is_printed<T: Display>(alloc: Global, value: &T, text: &str) -> bool {
+/// Whether a value is printed so.
+pub(crate) fn is_printed<T: Display>(alloc: Global, value: &T, text: &str) -> bool {
     match format!(in alloc; "{value}") {
         Ok(printed) => printed.as_str() == text,
         Err(_) => false,

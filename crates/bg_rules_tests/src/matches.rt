@@ -3,7 +3,7 @@ mod applied;
 mod extended;
 mod games;
 mod growths;
-mod lines;
+pub(crate) mod lines;
 mod passes;
 mod plays;
 mod records;

@@ -90,12 +90,59 @@ pub(crate) fn counts(rt: &impl Abort, words: &str) -> [u8; 26] {
     counts
 }
 
-/// A board, the checkers of X before those of O, as "20:1 0:14 / 16:2 0:13", or that of the start,
-/// as "start".
-pub(crate) fn board(rt: &impl Abort, words: &str) -> Board {
-    if words == "start" {
-        return Board::start();
+/// The boards that have a name, the checkers of X before those of O.
+const BOARDS: [(&str, &str); 20] = [
+    ("start", "24:2 13:5 8:3 6:5 / 24:2 13:5 8:3 6:5"),
+    // X opened with 8-5 6-5, and then O has moved so too.
+    ("opened", "24:2 13:5 8:2 6:4 5:2 / 24:2 13:5 8:3 6:5"),
+    (
+        "both opened",
+        "24:2 13:5 8:2 6:4 5:2 / 24:2 13:5 8:2 6:4 5:2",
+    ),
+    (
+        "mid",
+        "20:2 13:3 8:3 7:1 6:4 5:2 / 24:1 22:1 13:4 11:1 8:3 6:4 4:1",
+    ),
+    ("bar", "25:1 24:1 13:5 8:3 6:4 5:1 / 24:2 13:3 8:4 7:1 6:5"),
+    (
+        "two bars",
+        "25:2 13:4 8:3 6:4 4:2 / 25:1 24:1 13:4 8:2 6:5 5:2",
+    ),
+    (
+        "home",
+        "6:3 5:3 4:3 3:2 2:1 1:1 0:2 / 6:2 5:2 4:3 3:3 2:2 1:2 0:1",
+    ),
+    ("few", "2:1 1:1 0:13 / 3:1 1:2 0:12"),
+    ("closed", "8:3 6:2 5:2 4:2 3:2 2:2 1:2 / 25:3 6:5 5:4 4:3"),
+    ("stacks", "6:15 / 1:15"),
+    (
+        "prime",
+        "13:3 8:2 7:2 6:2 5:2 4:2 3:2 / 24:2 6:4 5:3 4:3 3:3",
+    ),
+    ("behind", "23:2 13:5 6:8 / 1:2 0:13"),
+    ("gammon", "1:2 0:13 / 23:2 13:5 6:8"),
+    ("last", "1:2 0:13 / 25:1 23:2 6:12"),
+    ("caught", "25:1 23:2 6:12 / 1:2 0:13"),
+    ("borne off", "0:15 / 6:2 1:4 0:9"),
+    ("gone", "0:15 / 1:3 0:12"),
+    ("lost", "23:1 6:14 / 0:15"),
+    ("barred", "25:15 / 25:15"),
+    ("all off", "0:15 / 0:15"),
+];
+
+/// Where the checkers of a board stand, by its name or as the words say it.
+fn places(words: &str) -> &str {
+    for (name, places) in &BOARDS {
+        if *name == words {
+            return places;
+        }
     }
-    let (x, o) = parted(rt, words, " / ");
+    words
+}
+
+/// A board by its name, as "start", or the checkers of X before those of O, as "20:1 0:14 / 16:2
+/// 0:13".
+pub(crate) fn board(rt: &impl Abort, words: &str) -> Board {
+    let (x, o) = parted(rt, places(words), " / ");
     Board::from_counts(counts(rt, x), counts(rt, o)).expect(rt, "a board")
 }

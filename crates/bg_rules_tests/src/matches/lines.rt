@@ -1,6 +1,6 @@
 //! What the lines of the tests of matches say: entries, faults, and standings part by part.
 use crate::words::{board, dice, named, parted, player, small_number, turn};
-use bg_board::{Board, Player};
+use bg_board::Player;
 use bg_match::{Cube, Entry, EntryFault, Level, NoDouble, Phase, Rules, Standing};
 use bg_turns::{Dice, TurnFault};
 use std::process::Abort;
@@ -72,22 +72,8 @@ pub(super) fn fault(rt: &impl Abort, words: &str) -> EntryFault {
     named(rt, &FAULTS, words)
 }
 
-/// The board after X opened with 8-5 6-5.
-const OPENED: &str = "24:2 13:5 8:2 6:4 5:2 / 24:2 13:5 8:3 6:5";
-
-/// The board after O has moved so too.
-const BOTH_OPENED: &str = "24:2 13:5 8:2 6:4 5:2 / 24:2 13:5 8:2 6:4 5:2";
-
-/// A board, as "start", "opened", "both opened", or point by point.
-fn board_of(rt: &impl Abort, words: &str) -> Board {
-    match words {
-        "opened" => board(rt, OPENED),
-        "both opened" => board(rt, BOTH_OPENED),
-        _ => board(rt, words),
-    }
-}
-
-/// A phase, as "opening", "X acts", "X moves 3 1", "X is doubled", "X resigned gammon" or "X won".
+/// A phase, as "opening", "X acts", "X moves 3 1", "X is doubled", "X resigned gammon 3 1" or "X
+/// won".
 pub(super) fn phase(rt: &impl Abort, words: &str) -> Phase {
     if words == "opening" {
         return Phase::Opening;
@@ -106,8 +92,16 @@ fn long_phase(rt: &impl Abort, player: Player, words: &str) -> Phase {
     let (does, rest) = parted(rt, words, " ");
     match does {
         "moves" => Phase::ToMove(player, dice(rt, rest)),
-        "resigned" => Phase::Resigned(player, level(rt, rest), None),
+        "resigned" => resigned(rt, player, rest),
         _ => panic!(rt; "no phase: {words}"),
+    }
+}
+
+/// An offer to resign, as "gammon", or after a roll, as "gammon 3 1".
+fn resigned(rt: &impl Abort, player: Player, words: &str) -> Phase {
+    match words.split_once(' ') {
+        None => Phase::Resigned(player, level(rt, words), None),
+        Some((word, rest)) => Phase::Resigned(player, level(rt, word), Some(dice(rt, rest))),
     }
 }
 
@@ -142,7 +136,7 @@ pub(super) fn crawford(rt: &impl Abort, word: &str) -> bool {
 /// The standing that has these parts, if there is one: the length, the board, the phase, the cube,
 /// the score, whether it is the Crawford game, and the number of the game, as "7, start, X acts, 2
 /// O, 3-2, plain, 4".
-pub(super) fn standing(rt: &impl Abort, rules: Rules, line: &str) -> Option<Standing> {
+pub(crate) fn standing(rt: &impl Abort, rules: Rules, line: &str) -> Option<Standing> {
     let (length, rest) = parted(rt, line, ", ");
     let (points, rest) = parted(rt, rest, ", ");
     let (does, rest) = parted(rt, rest, ", ");
@@ -152,7 +146,7 @@ pub(super) fn standing(rt: &impl Abort, rules: Rules, line: &str) -> Option<Stan
     Standing::from_parts(
         small_number(rt, length),
         rules,
-        board_of(rt, points),
+        board(rt, points),
         phase(rt, does),
         cube(rt, doubling),
         score(rt, won),

@@ -1,8 +1,8 @@
 //! Boards that are read of Position IDs.
+use crate::checks::{check_row, is_printed};
 use crate::words::{board, parted, player};
 use bg_board::Player;
 use bg_ids::PositionId;
-use std::fmt::Display;
 use std::process::Abort;
 
 /// Boards, each with the player on roll and the Position ID that GNU Backgammon has then.
@@ -50,7 +50,7 @@ fn is_board_of(rt: &impl Abort, row: &str) -> bool {
 #[test]
 fn boards_of_ids(rt: HostRuntime) {
     for row in BOARDS.lines() {
-        assert!(rt; is_board_of(&rt, row), "{row}");
+        check_row(&rt, row, is_board_of(&rt, row));
     }
 }
 
@@ -70,25 +70,20 @@ YAAAAAAgAAAAAA -> no board has this ID
 AQAABAAAEAAAAA -> no board has this ID
 /////////////w -> no board has this ID";
 
-/// A value is printed so.
-fn is_printed<T: Display + Drop>(rt: &(impl AllocGlobal + Abort), value: T, text: &str) -> bool {
-    let printed = format!(in rt.alloc(); "{value}").expect(rt, "memory");
-    printed.as_str() == text
-}
-
 /// Whether a row holds: a text, and why it is no Position ID, whoever is on roll.
 fn is_refused(rt: &(impl AllocGlobal + Abort), row: &str) -> bool {
     let (text, words) = parted(rt, row, " -> ");
     let x = PositionId::board_of(text.as_bytes(), Player::X);
     let o = PositionId::board_of(text.as_bytes(), Player::O);
     let fault = x.err().expect(rt, "a fault");
-    o.err() == Some(fault) && is_printed(rt, fault, words)
+    o.err() == Some(fault) && is_printed(rt.alloc(), &fault, words)
 }
 
 #[test]
 fn refused_ids(rt: HostRuntime) {
-    assert!(rt; is_refused(&rt, " -> not ten bytes in base64"));
+    let empty = " -> not ten bytes in base64";
+    check_row(&rt, empty, is_refused(&rt, empty));
     for row in REFUSED.lines() {
-        assert!(rt; is_refused(&rt, row), "{row}");
+        check_row(&rt, row, is_refused(&rt, row));
     }
 }

@@ -1,0 +1,4 @@
+//! Identifiers of positions and matches.
+mod boards;
+mod rows;
+mod uses;
