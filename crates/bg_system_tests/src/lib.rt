@@ -1,7 +1,9 @@
-//! Tests of sockets, files and what is noted of them, and of sealed datagrams, by what is public of
-//! their crates.
+//! Tests of sockets, files and what is noted of them, of sealed datagrams, and of what is exchanged
+//! with an etcd cluster, by what is public of their crates.
 #![tactic(auto)]
 
+#[cfg(test)]
+mod etcd;
 #[cfg(test)]
 mod failures;
 #[cfg(test)]
