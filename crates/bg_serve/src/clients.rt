@@ -186,13 +186,18 @@ impl Client {
             return Step::Gone;
         };
         site.begin_socket(&peer);
-        let (input, output) = Box::into_inner(connection).into_buffers();
+        self.begin_channel(Box::into_inner(connection), peer, now);
+        let _ = self.send(site, now);
+        Step::More
+    }
+
+    /// Makes a socket of its connection.
+    fn begin_channel(&mut self, connection: Connection, peer: Peer, now: u64) {
+        let (input, output) = connection.into_buffers();
         self.channel = Some(Channel::new(self.alloc, input, output, peer));
         self.since = now;
         self.sent = now;
         self.heard = now;
         self.asked = now;
-        let _ = self.send(site, now);
-        Step::More
     }
 }

@@ -1,182 +1,204 @@
-//! The clients of a server: who comes, who steps, and who goes.
+//! The clients of a server: who steps, and who goes.
 
 use crate::clients::Client;
-use crate::limits::MOST_CLIENTS;
-use crate::servers::{LISTENER, Server};
-use bg_site::Step;
+use crate::sockets::Sockets;
+use crate::visitors::Visitor;
+use bg_site::{Site, Step, Store};
 use bg_stores::WATCH;
-use mio::net::TcpStream;
-use mio::{Interest, Token};
-use std::hash::RandomState;
+use bg_world::Keeper;
+use mio::Token;
 use std::io;
+use std::net::SocketAddr;
 
-/// The most connections that are accepted in one turn.
-const MOST_ACCEPTED: u32 = 64;
+/// The clients of a server, and what it waits for.
+#[derive(Drop)]
+pub(crate) struct Crowd<'a> {
+    pub(crate) rt: &'a HostRuntime,
+    pub(crate) sockets: Sockets,
+    pub(crate) clients: Vec<Option<Box<Client>>>,
+    /// The indices of clients that may have more to do.
+    pub(crate) again: Vec<usize>,
+    /// Those of the clients that were heard in this turn, and are to be told what came of it.
+    heard: Vec<usize>,
+    /// Whether connections may wait to be accepted.
+    pub(crate) is_accepting: bool,
+    /// Whoever has come while nothing could be saved.
+    pub(crate) visitors: Vec<Visitor>,
+}
 
-impl<'a> Server<'a> {
-    /// Accepts connections. One more than are allowed is closed at once.
-    pub(crate) fn accept(&mut self, now: u64) {
-        for event in &self.events {
-            if event.token() == LISTENER {
-                self.is_accepting = true;
-            }
-        }
-        for _ in 0..MOST_ACCEPTED {
-            if !self.is_accepting {
-                return;
-            }
-            match self.listener.accept() {
-                Ok((stream, _)) => {
-                    let _ = self.take_in(stream, now);
-                }
-                // Nobody waits; or there are too many open files, and it is tried again in the next
-                // second.
-                Err(_) => self.is_accepting = false,
-            }
+impl<'a> Crowd<'a> {
+    /// Returns that nobody has come yet.
+    pub(crate) fn none(rt: &'a HostRuntime, sockets: Sockets) -> Crowd<'a> {
+        Crowd {
+            rt,
+            sockets,
+            clients: Vec::new(rt.alloc()),
+            again: Vec::new(rt.alloc()),
+            heard: Vec::new(rt.alloc()),
+            is_accepting: true,
+            visitors: Vec::new(rt.alloc()),
         }
     }
 
-    /// Takes a client in, where there is room.
+    /// Returns the address that it listens on.
     ///
     /// # Errors
-    /// Why it could not be: then it is closed.
-    fn take_in(&mut self, mut stream: TcpStream, now: u64) -> io::Result<()> {
-        let free = self.free_index();
-        if free >= MOST_CLIENTS {
-            return Ok(());
-        }
-        let _ = stream.set_nodelay(true);
-        self.poll.registry().register(
-            &mut stream,
-            Token(free + 1),
-            Interest::READABLE | Interest::WRITABLE,
-        )?;
-        let (alloc, keys) = (self.rt.alloc(), RandomState::new(self.rt)?);
-        self.again.push(free)?;
-        if free == self.clients.len() {
-            self.clients.push(None)?;
-        }
-        if let Some(slot) = self.clients.get_mut(free) {
-            *slot = Some(Box::new(alloc, Client::new(alloc, keys, stream, now)?)?);
-        }
-        Ok(())
+    /// Why the system does not tell.
+    pub(crate) fn address(&self) -> io::Result<SocketAddr> {
+        self.sockets.listener.local_addr()
     }
 
-    /// Returns the first index without a client.
-    fn free_index(&self) -> usize {
-        for (index, client) in self.clients.iter().enumerate() {
-            if client.is_none() {
-                return index;
-            }
-        }
-        self.clients.len()
+    /// Waits until a socket is ready, or time has come for something else. Where connections may
+    /// wait to be accepted, nothing tells of them again.
+    ///
+    /// # Errors
+    /// Why the sockets can't be waited for.
+    pub(crate) fn wait<K: Keeper + Drop, S: Store<K> + Drop>(
+        &mut self,
+        site: &Site<K, S>,
+    ) -> io::Result<()> {
+        let most = if !self.again.is_empty() || self.is_accepting {
+            0
+        } else if site.is_restless() {
+            100
+        } else {
+            1000
+        };
+        self.sockets.wait(most)
     }
 
     /// Reads and answers what has come of the clients whose sockets are ready, and of those that had
     /// more to do. Sends nothing yet.
-    pub(crate) fn hear_ready(&mut self, now: u64) -> io::Result<()> {
-        self.heard.clear();
-        for index in self.again.iter() {
-            self.heard.push(*index)?;
+    ///
+    /// # Errors
+    /// `OutOfMemory` alone, as of the other steps.
+    pub(crate) fn hear_ready<K: Keeper + Drop, S: Store<K> + Drop>(
+        &mut self,
+        site: &mut Site<K, S>,
+        now: u64,
+    ) -> io::Result<()> {
+        self.gather_ready()?;
+        for index in self.heard.iter() {
+            if let Some(Some(client)) = self.clients.get_mut(*index) {
+                client.hear(site, now);
+            }
         }
-        self.again.clear();
-        for event in &self.events {
+        Ok(())
+    }
+
+    /// Gathers the clients that are to be heard in this turn.
+    fn gather_ready(&mut self) -> io::Result<()> {
+        self.heard.clear();
+        self.heard.append(&mut self.again)?;
+        for event in &self.sockets.events {
             let Token(token) = event.token();
             if token > 0 && event.token() != WATCH {
                 self.heard.push(token - 1)?;
-            }
-        }
-        for index in self.heard.iter() {
-            if let Some(Some(client)) = self.clients.get_mut(*index) {
-                client.hear(&mut self.site, now);
             }
         }
         Ok(())
     }
 
     /// Sends to the clients that were heard what waits for them.
-    pub(crate) fn tell_heard(&mut self, now: u64) -> io::Result<()> {
+    pub(crate) fn tell_heard<K: Keeper + Drop, S: Store<K> + Drop>(
+        &mut self,
+        site: &mut Site<K, S>,
+        now: u64,
+    ) -> io::Result<()> {
         for at in 0..self.heard.len() {
-            let index = match self.heard.get(at) {
-                Some(index) => *index,
-                None => return Ok(()),
+            let Some(index) = self.heard.get(at).copied() else {
+                return Ok(());
             };
-            let step = match self.clients.get_mut(index) {
-                Some(Some(client)) => client.tell(&mut self.site, now),
-                _ => Step::Waits,
-            };
-            self.note(index, step)?;
+            if let Some(Some(client)) = self.clients.get_mut(index) {
+                let step = client.tell(site, now);
+                self.note(site, index, step)?;
+            }
         }
         Ok(())
     }
 
     /// Lets go of the clients that were heard in this turn, and have answers that may rest on what
     /// one of these matches has not saved.
-    pub(crate) fn drop_answers(&mut self, names: &[String]) {
+    pub(crate) fn drop_answers<K: Keeper + Drop, S: Store<K> + Drop>(
+        &mut self,
+        site: &mut Site<K, S>,
+        names: &[String],
+    ) {
         for at in 0..self.heard.len() {
-            let index = match self.heard.get(at) {
-                Some(index) => *index,
-                None => return,
+            let Some(index) = self.heard.get(at).copied() else {
+                return;
             };
             let may_rest = match self.clients.get(index) {
-                Some(Some(client)) => client.may_rest_on(&self.site, names),
+                Some(Some(client)) => client.may_rest_on(site, names),
                 _ => false,
             };
             if may_rest {
-                self.close(index);
+                self.close(site, index);
             }
         }
     }
 
     /// Notes what became of a client.
-    fn note(&mut self, index: usize, step: Step) -> io::Result<()> {
+    fn note<K: Keeper + Drop, S: Store<K> + Drop>(
+        &mut self,
+        site: &mut Site<K, S>,
+        index: usize,
+        step: Step,
+    ) -> io::Result<()> {
         match step {
             Step::Waits => {}
             Step::More => self.again.push(index)?,
-            Step::Gone => self.close(index),
+            Step::Gone => self.close(site, index),
         }
         Ok(())
     }
 
     /// Lets go of a client.
-    fn close(&mut self, index: usize) {
-        if let Some(slot) = self.clients.get_mut(index) {
-            if let Some(mut client) = slot.take() {
-                client.leave(&mut self.site);
-                let _ = self.poll.registry().deregister(&mut client.stream);
-            }
+    fn close<K: Keeper + Drop, S: Store<K> + Drop>(&mut self, site: &mut Site<K, S>, index: usize) {
+        if let Some(mut client) = self.take_out(index) {
+            client.leave(site);
+            self.sockets.deregister(&mut client.stream);
         }
     }
 
-    /// Looks once a second whether each client may stay, and what the operator has changed.
-    pub(crate) fn look(&mut self, now: u64) {
-        if now == self.looked {
-            return;
+    /// Takes a client out of its place.
+    fn take_out(&mut self, index: usize) -> Option<Box<Client>> {
+        match self.clients.get_mut(index) {
+            Some(slot) => slot.take(),
+            None => None,
         }
-        self.looked = now;
+    }
+
+    /// Looks whether each client may stay, and has connections accepted again.
+    pub(crate) fn look<K: Keeper + Drop, S: Store<K> + Drop>(
+        &mut self,
+        site: &mut Site<K, S>,
+        now: u64,
+    ) {
         self.is_accepting = true;
-        self.take_changes();
         let connections = self.clients.iter().flatten().count();
-        self.site.note_connections(connections as u64);
+        site.note_connections(connections as u64);
         for index in 0..self.clients.len() {
-            let stays = match self.clients.get_mut(index) {
-                Some(Some(client)) => client.may_stay(&mut self.site, now),
-                _ => true,
-            };
-            if !stays {
-                self.close(index);
+            if let Some(Some(client)) = self.clients.get_mut(index) {
+                if !client.may_stay(site, now) {
+                    self.close(site, index);
+                }
             }
         }
     }
 
     /// Sends what each client lacks.
-    pub(crate) fn send_news(&mut self, now: u64) -> io::Result<()> {
+    pub(crate) fn send_news<K: Keeper + Drop, S: Store<K> + Drop>(
+        &mut self,
+        site: &mut Site<K, S>,
+        now: u64,
+    ) -> io::Result<()> {
         for index in 0..self.clients.len() {
             let step = match self.clients.get_mut(index) {
-                Some(Some(client)) if client.is_live() => client.send(&mut self.site, now),
+                Some(Some(client)) if client.is_live() => client.send(site, now),
                 _ => Step::Waits,
             };
-            self.note(index, step)?;
+            self.note(site, index, step)?;
         }
         Ok(())
     }

@@ -7,6 +7,30 @@ use mio::net::TcpStream;
 use std::io;
 use std::io::ErrorKind;
 
+/// What came of a read or a write.
+#[derive(Clone, Copy)]
+pub(crate) enum Transfer {
+    /// Bytes were read or written.
+    Bytes,
+    /// It was interrupted, and can be tried again.
+    Nothing,
+    /// Nothing can be read or written now.
+    Blocked,
+    /// The client is gone.
+    Gone,
+}
+
+/// Returns what came of a read or a write that should have moved a byte at least.
+pub(crate) fn transfer_of(count: io::Result<usize>) -> Transfer {
+    match count {
+        Ok(0) => Transfer::Gone,
+        Ok(_) => Transfer::Bytes,
+        Err(error) if error.kind() == ErrorKind::WouldBlock => Transfer::Blocked,
+        Err(error) if error.kind() == ErrorKind::Interrupted => Transfer::Nothing,
+        Err(_) => Transfer::Gone,
+    }
+}
+
 /// Reads once, where more is wanted. Returns whether anything came; None where the client is gone.
 pub(crate) fn read_http(connection: &mut Connection, stream: &mut TcpStream) -> Option<bool> {
     if !connection.wants_read() {

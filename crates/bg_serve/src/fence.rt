@@ -61,13 +61,19 @@ impl Fence {
     pub(crate) fn adopt(&mut self, rt: &HostRuntime, path: &str) -> Result<Journal, Unsaved> {
         let mut journal = open_there(rt, path)?;
         let found = journal.find(TURN)?;
+        self.adopt_turn(rt.alloc(), found.as_deref())?;
+        Ok(journal)
+    }
+
+    /// Takes over what a database says of its newest turn.
+    fn adopt_turn(&mut self, alloc: Global, found: Option<&[u8]>) -> Result<(), Unsaved> {
         let next = self.turn.saturating_add(1);
-        if found == Some(self.text(rt.alloc(), next)?) {
+        if found == Some(self.text(alloc, next)?.as_slice()) {
             self.turn = next;
-        } else if found != Some(self.text(rt.alloc(), self.turn)?) {
+        } else if found != Some(self.text(alloc, self.turn)?.as_slice()) {
             return Err(Unsaved::Overtaken);
         }
-        Ok(journal)
+        Ok(())
     }
 
     /// Writes the changes of the next turn.

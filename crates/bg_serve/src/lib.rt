@@ -10,6 +10,7 @@
 //! ```
 #![tactic(auto)]
 
+mod arrivals;
 mod catching_up;
 mod clients;
 mod cluster_words;
@@ -42,6 +43,7 @@ mod sharing;
 mod sockets;
 mod tables;
 mod turns;
+mod updates;
 mod visitors;
 
 pub use folders::FolderStore;

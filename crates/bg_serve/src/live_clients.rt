@@ -1,13 +1,13 @@
 //! A client that has become a socket: messages in, and what its peer lacks out.
 
 use crate::clients::Client;
+use crate::exchanges::{Transfer, transfer_of};
 use crate::limits::{
     HEAD_SECONDS, HELLO_SECONDS, MOST_READS, MOST_WRITES, PING_SECONDS, SILENT_SECONDS,
     STALL_SECONDS,
 };
 use bg_site::{Site, Step, Store};
 use bg_world::Keeper;
-use std::io::ErrorKind;
 
 impl Client {
     /// Reads messages, and answers them.
@@ -28,12 +28,11 @@ impl Client {
                 }
                 _ => return Step::More,
             }
-            match channel.read_from(&mut self.stream) {
-                Ok(0) => return Step::Gone,
-                Ok(_) => self.heard = now,
-                Err(error) if error.kind() == ErrorKind::WouldBlock => return Step::Waits,
-                Err(error) if error.kind() == ErrorKind::Interrupted => {}
-                Err(_) => return Step::Gone,
+            match transfer_of(channel.read_from(&mut self.stream)) {
+                Transfer::Bytes => self.heard = now,
+                Transfer::Nothing => {}
+                Transfer::Blocked => return Step::Waits,
+                Transfer::Gone => return Step::Gone,
             }
         }
         Step::More
@@ -78,23 +77,30 @@ impl Client {
                     step => return step,
                 }
             }
-            match channel.write_to(&mut self.stream) {
-                Ok(0) => return Step::Gone,
-                Ok(_) => self.sent = now,
-                Err(error) if error.kind() == ErrorKind::WouldBlock => return Step::Waits,
-                Err(error) if error.kind() == ErrorKind::Interrupted => {}
-                Err(_) => return Step::Gone,
+            match transfer_of(channel.write_to(&mut self.stream)) {
+                Transfer::Bytes => self.sent = now,
+                Transfer::Nothing => {}
+                Transfer::Blocked => return Step::Waits,
+                Transfer::Gone => return Step::Gone,
             }
         }
         Step::More
     }
 
-    /// Returns whether it may stay in this second. A silent peer is pinged.
+    /// Returns whether it may stay in this second.
     pub(crate) fn may_stay<K: Keeper + Drop, S: Store<K> + Drop>(
         &mut self,
         site: &mut Site<K, S>,
         now: u64,
     ) -> bool {
+        self.may_be_silent(now)
+            && (!self.has_output()
+                || now.saturating_sub(self.sent) <= STALL_SECONDS
+                    && self.send(site, now) != Step::Gone)
+    }
+
+    /// Returns whether it may have sent nothing up to this second. A silent peer is pinged.
+    fn may_be_silent(&mut self, now: u64) -> bool {
         let Some(channel) = &mut self.channel else {
             return now.saturating_sub(self.since) <= HEAD_SECONDS;
         };
@@ -106,11 +112,8 @@ impl Client {
         }
         if silent >= PING_SECONDS && now.saturating_sub(self.asked) >= PING_SECONDS {
             self.asked = now;
-            if !channel.ask() {
-                return false;
-            }
+            return channel.ask();
         }
-        !self.has_output()
-            || now.saturating_sub(self.sent) <= STALL_SECONDS && self.send(site, now) != Step::Gone
+        true
     }
 }

@@ -36,6 +36,16 @@ pub fn run(rt: &HostRuntime, options: ManageOptions<'_>) -> Result<Ending, Endin
         folder,
         is_served: lock.is_none(),
     };
+    do_wanted(rt, tables, name, wanted)
+}
+
+/// Does what is wanted with a match, or with all of them.
+fn do_wanted(
+    rt: &HostRuntime,
+    tables: Tables<'_>,
+    name: Option<&str>,
+    wanted: Management<'_>,
+) -> Result<Ending, Ending> {
     match (wanted, name) {
         (Management::Backup(out), None) => back_up(rt, tables, out),
         (Management::Backup(_), Some(_)) => {
@@ -71,16 +81,24 @@ fn change(
         Ok(None) => return Err(no_match(rt, tables.folder, name)),
         Err(error) => return Err(failed_for(rt, "the match can't be read", &error)),
     };
-    let path = path.as_str();
-    let secret = match changed(tables, path, wanted) {
-        Ok(secret) => secret,
-        Err(error) => return Err(failed_at(rt, path, " could not be changed", &error)),
-    };
-    tell_server(rt, tables, name)?;
+    match changed(tables, path.as_str(), wanted) {
+        Ok(secret) => {
+            tell_server(rt, tables, name)?;
+            tell_change(rt, wanted, secret.as_deref())
+        }
+        Err(error) => Err(failed_at(rt, path.as_str(), " could not be changed", &error)),
+    }
+}
+
+/// Says what came of a change: the link of a seat, if it has a new one.
+fn tell_change(
+    rt: &HostRuntime,
+    wanted: Management<'_>,
+    secret: Option<&str>,
+) -> Result<Ending, Ending> {
     match (wanted, secret) {
-        (Management::NewLink(player), Some(secret)) => {
+        (Management::NewLink(player), Some(link)) => {
             let letter = if player == Player::X { "X" } else { "O" };
-            let link = secret.as_str();
             written(rt, println!(rt; "{letter} plays at /play#{link}"))?;
             Ok(Ending::Served)
         }
@@ -152,21 +170,15 @@ fn restore(rt: &HostRuntime, tables: Tables<'_>, from: &str, name: &str) -> Resu
         Ok(false) => return Err(no_match(rt, from, name)),
         Err(error) => return Err(failed_at(rt, from, " could not be read", &error)),
     }
-    match tables.put_back(from, name) {
-        Ok(true) => {
-            tell_server(rt, tables, name)?;
-            written(rt, println!(rt; "restored: {}", Printable(name)))?;
-            Ok(Ending::Served)
-        }
-        Ok(false) => {
-            let shown = Printable(name);
-            Err(wrong(
-                rt,
-                format_args!("{shown} is there: delete it first, if the copy is to take its place"),
-            ))
-        }
-        Err(error) => Err(failed_at(rt, name, " could not be restored", &error)),
+    let shown = Printable(name);
+    if put_back(rt, tables, from, name)? {
+        written(rt, println!(rt; "restored: {shown}"))?;
+        return Ok(Ending::Served);
     }
+    Err(wrong(
+        rt,
+        format_args!("{shown} is there: delete it first, if the copy is to take its place"),
+    ))
 }
 
 /// Copies all matches back that are not there any more.
@@ -177,17 +189,22 @@ fn restore_all(rt: &HostRuntime, tables: Tables<'_>, from: &str) -> Result<Endin
     };
     let mut count = 0u64;
     for name in names.iter() {
-        match tables.put_back(from, name.as_str()) {
-            Ok(true) => {
-                tell_server(rt, tables, name.as_str())?;
-                count = count.saturating_add(1);
-            }
-            Ok(false) => {}
-            Err(error) => {
-                return Err(failed_at(rt, name.as_str(), " could not be restored", &error));
-            }
+        if put_back(rt, tables, from, name.as_str())? {
+            count = count.saturating_add(1);
         }
     }
     written(rt, println!(rt; "matches restored: {count}"))?;
     Ok(Ending::Served)
+}
+
+/// Copies a match back, and tells the server. Returns false where it is there.
+fn put_back(rt: &HostRuntime, tables: Tables<'_>, from: &str, name: &str) -> Result<bool, Ending> {
+    match tables.put_back(from, name) {
+        Ok(true) => {
+            tell_server(rt, tables, name)?;
+            Ok(true)
+        }
+        Ok(false) => Ok(false),
+        Err(error) => Err(failed_at(rt, name, " could not be restored", &error)),
+    }
 }

@@ -1,5 +1,6 @@
 //! The command that serves matches to browsers.
 
+use crate::crowds::Crowd;
 use crate::database_words::{is_anothers, not_usable, settle_first, tell_outage};
 use crate::databases::Database;
 use crate::folders::FolderStore;
@@ -26,26 +27,30 @@ const MORE_FILES: &str = "; allow it more open files (`ulimit -n`), and start it
 /// Serves the matches of a folder at a port of this machine until the process is ended. Says each
 /// request, if that is wanted.
 pub fn run(rt: &HostRuntime, options: ServeOptions<'_>) -> Result<Ending, Ending> {
-    let ServeOptions {
-        folder,
-        port,
-        database,
-        ..
-    } = options;
-    check_of_all(rt, folder)?;
-    let _lock = own_folder(rt, folder)?;
-    settle_first(rt, folder, database)?;
-    let failures = Failures::new();
-    if let Some(words) = database.filter(|words| words.starts_with(CLUSTER)) {
-        return run_shared(rt, &options, words, &failures);
+    check_of_all(rt, options.folder)?;
+    let _lock = own_folder(rt, options.folder)?;
+    settle_first(rt, options.folder, options.database)?;
+    run_owned(rt, options, &Failures::new())
+}
+
+/// Serves the matches of a folder that no other process uses.
+fn run_owned(
+    rt: &HostRuntime,
+    options: ServeOptions<'_>,
+    failures: &Failures,
+) -> Result<Ending, Ending> {
+    let words = options.database.unwrap_or_default();
+    if words.starts_with(CLUSTER) {
+        return run_shared(rt, &options, words, failures);
     }
-    let (mut server, mut database) = match begun(rt, &options, &failures) {
-        Ok(begun) => begun,
-        Err(why) => return Err(not_begun(rt, port, database.unwrap_or_default(), why)),
-    };
-    set_up(&mut server, &options);
-    tell_begin(rt, &server);
-    go_on(rt, &mut server, &mut database, options, &failures)
+    match begun(rt, &options, failures) {
+        Ok((mut server, mut database)) => {
+            set_up(&mut server, &options);
+            tell_begin(rt, &server);
+            go_on(rt, &mut server, &mut database, options, failures)
+        }
+        Err(why) => Err(not_begun(rt, options.port, words, why)),
+    }
 }
 
 /// Lists matches apart once nobody has acted for as long as the options say, and keeps a log of
@@ -99,18 +104,36 @@ fn go_on(
     failures: &Failures,
 ) -> Result<Ending, Ending> {
     for _ in 0..u64::MAX {
-        let now = waited(rt, server.hear())?;
-        if let Some(database) = database {
-            commit(rt, server, database, options.database.unwrap_or_default())?;
-        }
-        let made = waited(rt, server.tell(now))?;
-        if let Some(database) = database {
-            commit(rt, server, database, options.database.unwrap_or_default())?;
-            database.follow(now);
-        }
+        let made = match database {
+            Some(database) => {
+                take_turn(rt, server, database, options.database.unwrap_or_default())?
+            }
+            None => take_turn_alone(rt, server)?,
+        };
         tell_turn(rt, server, made, options.folder, failures);
     }
     Ok(Ending::Served)
+}
+
+/// Lets a server take a turn, with a database. Returns how many matches were made in it.
+fn take_turn(
+    rt: &HostRuntime,
+    server: &mut Server<'_>,
+    database: &mut Database<'_>,
+    path: &str,
+) -> Result<u64, Ending> {
+    let now = waited(rt, server.hear())?;
+    commit(rt, &mut server.crowd, database, path)?;
+    let made = waited(rt, server.tell(now))?;
+    commit(rt, &mut server.crowd, database, path)?;
+    database.follow(now);
+    Ok(made)
+}
+
+/// Lets a server take a turn, without a database. Returns how many matches were made in it.
+fn take_turn_alone(rt: &HostRuntime, server: &mut Server<'_>) -> Result<u64, Ending> {
+    let now = waited(rt, server.hear())?;
+    waited(rt, server.tell(now))
 }
 
 /// Ends a turn, in which so many matches were made, and all of which is saved: says what came of it.
@@ -131,7 +154,7 @@ pub(crate) fn tell_turn(
 /// whoever comes meanwhile.
 fn commit(
     rt: &HostRuntime,
-    server: &mut Server<'_>,
+    crowd: &mut Crowd<'_>,
     database: &mut Database<'_>,
     path: &str,
 ) -> Result<(), Ending> {
@@ -142,11 +165,11 @@ fn commit(
         tell_outage(rt, path, before, failed);
         if failed.is_none() {
             if before.is_some() {
-                server.welcome();
+                crowd.welcome();
             }
             return Ok(());
         }
-        server.turn_away();
+        crowd.turn_away();
         waited(rt, database.pause())?;
     }
     Ok(())
@@ -162,14 +185,7 @@ pub(crate) fn waited<T>(rt: &HostRuntime, attempt: io::Result<T>) -> Result<T, E
 
 /// Says what is served, and where.
 pub(crate) fn tell_begin(rt: &HostRuntime, server: &Server<'_>) {
-    for name in server.left_out() {
-        say(
-            rt,
-            format_args!(
-                "the match in {name} is left out: it can't be read, or another process uses it"
-            ),
-        );
-    }
+    tell_left_out(rt, server.left_out());
     let count = server.matches();
     match server.address() {
         Ok(address) => say(
@@ -177,6 +193,18 @@ pub(crate) fn tell_begin(rt: &HostRuntime, server: &Server<'_>) {
             format_args!("serving at http://{address}, matches: {count}"),
         ),
         Err(_) => say(rt, format_args!("serving, matches: {count}")),
+    }
+}
+
+/// Says which matches are left out.
+fn tell_left_out(rt: &HostRuntime, names: &[String]) {
+    for name in names.iter() {
+        say(
+            rt,
+            format_args!(
+                "the match in {name} is left out: it can't be read, or another process uses it"
+            ),
+        );
     }
 }
 
@@ -196,10 +224,15 @@ fn tell_counts(rt: &HostRuntime, made: u64, ended: u64, changed: u64) {
 
 /// Says which requests were answered, if a log of them is kept.
 fn tell_requests(rt: &HostRuntime, server: &mut Server<'_>) {
-    if let Some(log) = server.site.take_log() {
-        for line in log.as_str().lines() {
-            let shown = Printable(line);
-            say(rt, format_args!("{shown}"));
-        }
+    if let Some(log) = server.take_log() {
+        say_lines(rt, log.as_str());
+    }
+}
+
+/// Says lines, without what a terminal would take for commands.
+fn say_lines(rt: &HostRuntime, lines: &str) {
+    for line in lines.lines() {
+        let shown = Printable(line);
+        say(rt, format_args!("{shown}"));
     }
 }

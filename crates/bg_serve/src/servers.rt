@@ -1,58 +1,34 @@
 //! The server: its matches, its listener and its clients.
 
-use crate::clients::Client;
+use crate::crowds::Crowd;
 use crate::folders::FolderStore;
-use crate::limits::MOST_MADE;
-use crate::quotas::Quota;
 use crate::served_keepers::ServedKeeper;
 use crate::sockets::Sockets;
-use crate::visitors::Visitor;
+use crate::turns::Turns;
 use bg_processes::{Failures, FolderLock};
 use bg_requests::is_name;
-use bg_site::Site;
-use mio::net::TcpListener;
-use mio::{Events, Poll, Token};
+use bg_site::{Found, Site};
 use std::io;
 use std::net::SocketAddr;
-use std::time::Instant;
 
-/// The token of the listener; that of a client is one more than its index.
-pub(crate) const LISTENER: Token = Token(0);
-
-/// The server of a folder. It is large, so it lies in a box.
+/// The server of a folder. It is large, so it lies in a box. The check takes seconds for each
+/// function that asks something of the site of these keepers and this store: so what is done with
+/// the site is a function over any site, as far as it needs no more.
 #[derive(Drop)]
 pub struct Server<'a> {
-    pub(crate) rt: &'a HostRuntime,
     pub(crate) site: Site<ServedKeeper<'a>, FolderStore<'a>>,
     /// The names of what looks like a match in the folder, and can't be served.
     left_out: Vec<String>,
     /// The locks of folders that others might play over.
     locks: Vec<FolderLock>,
-    pub(crate) poll: Poll,
-    pub(crate) events: Events,
-    pub(crate) listener: TcpListener,
-    pub(crate) clients: Vec<Option<Box<Client>>>,
-    /// The indices of clients that may have more to do.
-    pub(crate) again: Vec<usize>,
-    /// Those of the clients that were heard in this turn, and are to be told what came of it.
-    pub(crate) heard: Vec<usize>,
-    pub(crate) quota: Quota,
+    pub(crate) crowd: Crowd<'a>,
+    turns: Turns<'a>,
     /// How many changes of the operator were taken in, and not told yet.
-    changed: u64,
+    pub(crate) changed: u64,
     /// The matches of which changes were taken in that may not be saved yet.
-    taken: Vec<String>,
+    pub(crate) taken: Vec<String>,
     /// How many matches were told to have ended.
     ended: u64,
-    /// How many matches were made until the last turn.
-    pub(crate) made: u64,
-    pub(crate) start: Instant,
-    /// The second in which all were looked at last, and the tenth in which matches ticked last.
-    pub(crate) looked: u64,
-    pub(crate) ticked: u64,
-    /// Whether connections may wait to be accepted.
-    pub(crate) is_accepting: bool,
-    /// Whoever has come while nothing could be saved.
-    pub(crate) visitors: Vec<Visitor>,
 }
 
 impl<'a> Server<'a> {
@@ -80,8 +56,8 @@ impl<'a> Server<'a> {
         sockets: Sockets,
         store: FolderStore<'a>,
     ) -> io::Result<Box<Server<'a>>> {
-        let start = Instant::now(rt)?;
-        let mut server = Box::new(rt.alloc(), Server::over(rt, sockets, store, start))?;
+        let turns = Turns::begin(rt)?;
+        let mut server = Box::new(rt.alloc(), Server::over(rt, sockets, store, turns))?;
         server.open_all()?;
         Ok(server)
     }
@@ -91,34 +67,50 @@ impl<'a> Server<'a> {
         rt: &'a HostRuntime,
         sockets: Sockets,
         store: FolderStore<'a>,
-        start: Instant,
+        turns: Turns<'a>,
     ) -> Server<'a> {
         Server {
-            rt,
             site: Site::new(rt.alloc(), store),
             left_out: Vec::new(rt.alloc()),
             locks: Vec::new(rt.alloc()),
-            poll: sockets.poll,
-            events: sockets.events,
-            listener: sockets.listener,
-            clients: Vec::new(rt.alloc()),
-            again: Vec::new(rt.alloc()),
-            heard: Vec::new(rt.alloc()),
-            quota: Quota::new(MOST_MADE),
+            crowd: Crowd::none(rt, sockets),
+            turns,
             changed: 0,
             taken: Vec::new(rt.alloc()),
             ended: 0,
-            made: 0,
-            start,
-            looked: 0,
-            ticked: 0,
-            is_accepting: true,
-            visitors: Vec::new(rt.alloc()),
         }
     }
 
-    /// Returns the store. The check takes five seconds for each function that asks the site for it.
-    fn store(&self) -> &FolderStore<'a> {
+    /// Waits until something is to be done, does it, and tells the clients. Returns how many matches
+    /// were made. What was saved is durable before, as where there is no database.
+    ///
+    /// # Errors
+    /// Why the sockets can't be waited for, or there is no memory.
+    pub fn turn(&mut self) -> io::Result<u64> {
+        let now = self.hear()?;
+        let made = self.tell(now)?;
+        self.forget_changes();
+        Ok(made)
+    }
+
+    /// Waits until something is to be done, and does it, but tells nobody. Returns the second.
+    pub(crate) fn hear(&mut self) -> io::Result<u64> {
+        self.turns.hear(&mut self.crowd, &mut self.site)
+    }
+
+    /// Tells the clients what came of the turn, once what was saved in it is durable. Returns how
+    /// many matches were made.
+    pub(crate) fn tell(&mut self, now: u64) -> io::Result<u64> {
+        let is_second = self.turns.begins_second(now);
+        if is_second {
+            self.take_changes();
+        }
+        self.turns
+            .tell(&mut self.crowd, &mut self.site, now, is_second)
+    }
+
+    /// Returns the store.
+    pub(crate) fn store(&self) -> &FolderStore<'a> {
         self.site.store()
     }
 
@@ -137,13 +129,21 @@ impl<'a> Server<'a> {
     }
 
     /// Takes in the match of a folder, if it has one. Returns false where that can't be served.
-    fn open(&mut self, name: &str) -> io::Result<bool> {
-        let Ok(found) = self.store().find(name) else {
-            return Ok(false);
-        };
-        let Some((found, lock)) = found else {
-            return Ok(true);
-        };
+    pub(crate) fn open(&mut self, name: &str) -> io::Result<bool> {
+        match self.store().find(name) {
+            Ok(Some((found, lock))) => self.open_found(found, lock),
+            Ok(None) => Ok(true),
+            Err(_) => Ok(false),
+        }
+    }
+
+    /// Takes in a match that was found, and keeps the lock of its folder. Returns false where there
+    /// is no room for it.
+    fn open_found(
+        &mut self,
+        found: Box<Found<ServedKeeper<'a>>>,
+        lock: Option<FolderLock>,
+    ) -> io::Result<bool> {
         if !self.site.open(Box::into_inner(found)) {
             return Ok(false);
         }
@@ -153,58 +153,16 @@ impl<'a> Server<'a> {
         Ok(true)
     }
 
-    /// Takes in what the operator has changed, as far as it can be read.
-    pub(crate) fn take_changes(&mut self) {
-        let Ok(names) = self.store().take_changes() else {
-            return;
-        };
-        for name in names.iter() {
-            let _ = self.take_change(name.as_str());
-            self.changed = self.changed.saturating_add(1);
-        }
-        self.taken = names;
+    /// Lets go of the clients that were heard in this turn, and have answers that may rest on what
+    /// one of these matches has not saved.
+    pub(crate) fn drop_answers(&mut self, names: &[String]) {
+        self.crowd.drop_answers(&mut self.site, names);
     }
 
-    /// Forgets what the operator has changed, since what was taken in of it is saved.
-    pub(crate) fn forget_changes(&mut self) {
-        for name in self.taken.iter() {
-            self.store().forget_change(name.as_str());
-        }
-        self.taken.clear();
-    }
-
-    /// Takes in what the operator has changed of a match: it may be new, or gone. What a database
-    /// has of such a match doesn't count.
-    fn take_change(&mut self, name: &str) -> io::Result<()> {
-        match self.store().changed(name) {
-            Ok(Some(changed)) => {
-                if self.site.change(name, changed) {
-                    return self.store().note_changed(name);
-                }
-                if is_name(name) {
-                    self.store().note_new(name)?;
-                    self.open(name)?;
-                }
-                Ok(())
-            }
-            Ok(None) => {
-                self.site.remove(name);
-                self.store().note_gone(name)
-            }
-            Err(error) => Err(error),
-        }
-    }
-
-    /// Takes in what another server has made of a match, which the folder and the turn have. What
-    /// can't be read isn't served any more, since nobody knows which of it is saved.
-    pub(crate) fn renew(&mut self, name: &str) {
-        let is_there = match self.store().find(name) {
-            Ok(Some((found, None))) => self.site.replace(Box::into_inner(found)),
-            _ => false,
-        };
-        if !is_there {
-            self.site.remove(name);
-        }
+    /// Returns the lines of requests that were answered since this was asked last, if a log of them
+    /// is kept.
+    pub(crate) fn take_log(&mut self) -> Option<String> {
+        self.site.take_log()
     }
 
     /// Returns how many changes of the operator were taken in since this was asked last.
@@ -227,7 +185,7 @@ impl<'a> Server<'a> {
     /// # Errors
     /// Why the system does not tell.
     pub fn address(&self) -> io::Result<SocketAddr> {
-        self.listener.local_addr()
+        self.crowd.address()
     }
 
     /// Returns the number of its matches.

@@ -2,6 +2,7 @@
 
 use crate::cluster_words::{not_joined, tell_long, tell_lost, tell_trouble, tell_watch, tell_well};
 use crate::clusters::Cluster;
+use crate::crowds::Crowd;
 use crate::folders::FolderStore;
 use crate::joining::{Unjoined, join};
 use crate::serve::{not_begun, set_up, tell_begin, tell_turn, waited};
@@ -37,62 +38,70 @@ pub(crate) fn run_shared<'a>(
             return Err(not_begun(rt, options.port, words, Unusable::File(error)));
         }
     };
-    let (cluster, store) = match joined(rt, options.folder, words, failures) {
-        Ok(joined) => joined,
-        Err(why) => return Err(not_joined(rt, options.folder, words, &why)),
-    };
-    let mut server = match Server::begin_over(rt, sockets, store) {
-        Ok(server) => server,
-        Err(error) => return Err(not_joined(rt, options.folder, words, &Unjoined::from(error))),
-    };
-    set_up(&mut server, options);
-    let mut shared = Shared {
-        rt,
-        cluster,
-        words,
-        is_away: false,
-        is_untold: false,
-    };
-    // What the operator has changed while no server looked is put before anybody is served.
-    server.take_changes();
-    shared.commit(&mut server)?;
-    server.forget_changes();
-    tell_begin(rt, &server);
-    go_on(&mut shared, &mut server, options.folder, failures)
+    match joined(rt, options.folder, words, failures, sockets) {
+        Ok((cluster, mut server)) => {
+            let mut shared = Shared {
+                rt,
+                cluster,
+                words,
+                is_away: false,
+                is_untold: false,
+            };
+            set_up(&mut server, options);
+            begin(&mut shared, &mut server)?;
+            go_on(&mut shared, &mut server, options.folder, failures)
+        }
+        Err(why) => Err(not_joined(rt, options.folder, words, &why)),
+    }
 }
 
-/// Joins the servers that share the matches of a store.
+/// Joins the servers that share the matches of a store. Returns it, and the server at these sockets.
 fn joined<'a>(
     rt: &'a HostRuntime,
     folder: &'a str,
     words: &str,
     failures: &'a Failures,
-) -> Result<(Box<Cluster<'a>>, FolderStore<'a>), Unjoined> {
+    sockets: Sockets,
+) -> Result<(Box<Cluster<'a>>, Box<Server<'a>>), Unjoined> {
     let mut store = FolderStore::new(rt, folder, failures)?;
     let cluster = join(rt, folder, words, &mut store)?;
-    Ok((cluster, store))
+    Ok((cluster, Server::begin_over(rt, sockets, store)?))
 }
 
-/// Lets a server take its turns. What was saved in one is in the store before anybody is told of
-/// it, and so is what was changed while they were told.
+/// Puts what the operator has changed while no server looked, before anybody is served.
+fn begin(shared: &mut Shared<'_>, server: &mut Server<'_>) -> Result<(), Ending> {
+    server.take_changes();
+    shared.commit(server)?;
+    server.forget_changes();
+    tell_begin(shared.rt, server);
+    Ok(())
+}
+
+/// Lets a server take its turns.
 fn go_on(
     shared: &mut Shared<'_>,
     server: &mut Server<'_>,
     folder: &str,
     failures: &Failures,
 ) -> Result<Ending, Ending> {
-    let rt = shared.rt;
     for _ in 0..u64::MAX {
-        let now = waited(rt, server.hear())?;
-        shared.commit(server)?;
-        shared.take_news(server, now)?;
-        let made = waited(rt, server.tell(now))?;
-        shared.commit(server)?;
-        shared.cluster.follow(now);
-        tell_turn(rt, server, made, folder, failures);
+        let made = take_turn(shared, server)?;
+        tell_turn(shared.rt, server, made, folder, failures);
         shared.tell_long();
     }
     Ok(Ending::Served)
+}
+
+/// Lets a server take a turn. What was saved in it is in the store before anybody is told of it, and
+/// so is what was changed while they were told. Returns how many matches were made.
+fn take_turn(shared: &mut Shared<'_>, server: &mut Server<'_>) -> Result<u64, Ending> {
+    let now = waited(shared.rt, server.hear())?;
+    shared.commit(server)?;
+    shared.take_news(server, now)?;
+    let made = waited(shared.rt, server.tell(now))?;
+    shared.commit(server)?;
+    shared.cluster.follow(now);
+    Ok(made)
 }
 
 impl<'a> Shared<'a> {
@@ -101,14 +110,12 @@ impl<'a> Shared<'a> {
     /// that may rest on anything else are let go of: they come again, and send again.
     fn commit(&mut self, server: &mut Server<'_>) -> Result<(), Ending> {
         for _ in 0..u64::MAX {
-            let lost = self.committed(server)?;
+            let lost = self.committed(&mut server.crowd)?;
             if lost.is_empty() {
                 break;
             }
             server.drop_answers(&lost);
-            for name in lost.iter() {
-                server.renew(name.as_str());
-            }
+            server.renew_all(&lost);
             tell_lost(self.rt, lost.len());
         }
         Ok(())
@@ -116,38 +123,42 @@ impl<'a> Shared<'a> {
 
     /// Puts into the store what was saved, and tries it again as long as that fails; whoever comes
     /// meanwhile is told so. Returns the matches with which another server went on first.
-    fn committed(&mut self, server: &mut Server<'_>) -> Result<Vec<String>, Ending> {
+    fn committed(&mut self, crowd: &mut Crowd<'_>) -> Result<Vec<String>, Ending> {
         let mut has_failed = false;
         for _ in 0..u64::MAX {
-            match self.cluster.commit() {
-                Ok(lost) => {
-                    if has_failed {
-                        server.welcome();
-                    }
-                    self.tell_well();
-                    return Ok(lost);
+            if let Some(lost) = self.try_commit()? {
+                if has_failed {
+                    crowd.welcome();
                 }
-                Err(Trouble::NotYet) => {}
-                Err(trouble) => {
-                    self.tell_trouble(&trouble);
-                    waited(self.rt, self.cluster.pause())?;
-                }
+                self.tell_well();
+                return Ok(lost);
             }
             has_failed = true;
-            server.turn_away();
+            crowd.turn_away();
         }
         Ok(Vec::new(self.rt.alloc()))
+    }
+
+    /// Puts into the store what was saved, if that can be done now; else it says why, and pauses.
+    fn try_commit(&mut self) -> Result<Option<Vec<String>>, Ending> {
+        match self.cluster.commit() {
+            Ok(lost) => return Ok(Some(lost)),
+            Err(Trouble::NotYet) => {}
+            Err(trouble) => {
+                self.tell_trouble(&trouble);
+                waited(self.rt, self.cluster.pause())?;
+            }
+        }
+        Ok(None)
     }
 
     /// Takes in what other servers have made of the matches.
     fn take_news(&mut self, server: &mut Server<'_>, now: u64) -> Result<(), Ending> {
         self.tell_watch(now);
-        match self.cluster.news(server.poll.registry(), now) {
+        match self.cluster.news(server.crowd.sockets.poll.registry(), now) {
             Ok(names) if names.is_empty() => Ok(()),
             Ok(names) => {
-                for name in names.iter() {
-                    server.renew(name.as_str());
-                }
+                server.renew_all(&names);
                 self.commit(server)
             }
             Err(trouble) => {

@@ -1,74 +1,105 @@
 //! The turns of a server: it hears its clients, and, once what was saved is durable, tells them.
 
-use crate::servers::Server;
+use crate::crowds::Crowd;
+use crate::limits::MOST_MADE;
+use crate::quotas::Quota;
+use bg_site::{Site, Store};
+use bg_world::Keeper;
 use std::io;
 use std::time::{Duration, Instant};
 
-impl<'a> Server<'a> {
-    /// Waits until something is to be done, does it, and tells the clients. Returns how many matches
-    /// were made. What was saved is durable before, as where there is no database.
+/// How far a server has come with its turns.
+#[derive(Drop)]
+pub(crate) struct Turns<'a> {
+    rt: &'a HostRuntime,
+    start: Instant,
+    /// The second in which all were looked at last, and the tenth in which matches ticked last.
+    looked: u64,
+    ticked: u64,
+    quota: Quota,
+    /// How many matches were made until the last turn.
+    made: u64,
+}
+
+impl<'a> Turns<'a> {
+    /// Returns the turns of a server that begins now.
     ///
     /// # Errors
-    /// Why the sockets can't be waited for, or there is no memory.
-    pub fn turn(&mut self) -> io::Result<u64> {
-        let now = self.hear()?;
-        let made = self.tell(now)?;
-        self.forget_changes();
-        Ok(made)
+    /// Why the clock could not be read.
+    pub(crate) fn begin(rt: &'a HostRuntime) -> io::Result<Turns<'a>> {
+        Ok(Turns {
+            rt,
+            start: Instant::now(rt)?,
+            looked: 0,
+            ticked: 0,
+            quota: Quota::new(MOST_MADE),
+            made: 0,
+        })
     }
 
     /// Waits until something is to be done, and does it, but tells nobody. Returns the second.
-    pub(crate) fn hear(&mut self) -> io::Result<u64> {
-        self.wait()?;
+    ///
+    /// # Errors
+    /// Why the sockets can't be waited for, or there is no memory.
+    pub(crate) fn hear<K: Keeper + Drop, S: Store<K> + Drop>(
+        &mut self,
+        crowd: &mut Crowd<'_>,
+        site: &mut Site<K, S>,
+    ) -> io::Result<u64> {
+        crowd.wait(site)?;
         let since = Instant::now(self.rt)?.duration_since(self.start);
         let now = since.as_secs();
-        self.site.allow_making(self.quota.has_any(now));
-        self.site.begin_minute(now / 60);
-        self.accept(now);
-        self.hear_ready(now)?;
-        self.tick(tenths_of(since));
+        site.allow_making(self.quota.has_any(now));
+        site.begin_minute(now / 60);
+        crowd.accept(now);
+        crowd.hear_ready(site, now)?;
+        self.tick(site, tenths_of(since));
         Ok(now)
     }
 
-    /// Tells the clients what came of the turn, once what was saved in it is durable. Returns how
-    /// many matches were made.
-    pub(crate) fn tell(&mut self, now: u64) -> io::Result<u64> {
-        self.look(now);
-        self.tell_heard(now)?;
-        if self.site.has_news() {
-            self.send_news(now)?;
+    /// Returns whether this is a second in which nothing was looked at yet, and notes that it is
+    /// now.
+    pub(crate) fn begins_second(&mut self, now: u64) -> bool {
+        let begins = now != self.looked;
+        self.looked = now;
+        begins
+    }
+
+    /// Tells the clients what came of the turn, once what was saved in it is durable; first it looks
+    /// at all of them, where a second has begun. Returns how many matches were made.
+    ///
+    /// # Errors
+    /// `OutOfMemory` alone.
+    pub(crate) fn tell<K: Keeper + Drop, S: Store<K> + Drop>(
+        &mut self,
+        crowd: &mut Crowd<'_>,
+        site: &mut Site<K, S>,
+        now: u64,
+        is_second: bool,
+    ) -> io::Result<u64> {
+        if is_second {
+            crowd.look(site, now);
         }
-        let made = self.site.made();
+        crowd.tell_heard(site, now)?;
+        if site.has_news() {
+            crowd.send_news(site, now)?;
+        }
+        Ok(self.note_made(site.made()))
+    }
+
+    /// Notes how many matches were made since the server began; returns how many of them are new.
+    fn note_made(&mut self, made: u64) -> u64 {
         let fresh = made.saturating_sub(self.made);
         self.made = made;
         self.quota.take(fresh);
-        Ok(fresh)
-    }
-
-    /// Waits until a socket is ready, or time has come for something else. Where connections may
-    /// wait to be accepted, nothing tells of them again.
-    fn wait(&mut self) -> io::Result<()> {
-        let most = if !self.again.is_empty() || self.is_accepting {
-            0
-        } else if self.site.is_restless() {
-            100
-        } else {
-            1000
-        };
-        match self
-            .poll
-            .poll(&mut self.events, Some(Duration::from_millis(most)))
-        {
-            Err(error) if error.kind() == io::ErrorKind::Interrupted => Ok(()),
-            result => result,
-        }
+        fresh
     }
 
     /// Lets matches tick that have something left to do, ten times a second.
-    fn tick(&mut self, tenth: u64) {
-        if self.site.is_restless() && tenth != self.ticked {
+    fn tick<K: Keeper + Drop, S: Store<K> + Drop>(&mut self, site: &mut Site<K, S>, tenth: u64) {
+        if site.is_restless() && tenth != self.ticked {
             self.ticked = tenth;
-            self.site.tick();
+            site.tick();
         }
     }
 }

@@ -1,8 +1,8 @@
 //! Whoever comes while a server waits to save: it is told so, and let go of.
 
 use crate::clients::config;
+use crate::crowds::Crowd;
 use crate::exchanges::{read_http, write_http};
-use crate::servers::Server;
 use bg_pages::{add_common, refuse};
 use bytes::Bytes;
 use http::{Request, StatusCode};
@@ -61,7 +61,7 @@ impl Visitor {
     }
 }
 
-impl<'a> Server<'a> {
+impl<'a> Crowd<'a> {
     /// Tells whoever comes that nothing can be saved now. It is called again and again, as long as
     /// that is so.
     pub(crate) fn turn_away(&mut self) {
@@ -69,7 +69,7 @@ impl<'a> Server<'a> {
             if self.visitors.len() >= MOST_VISITORS {
                 break;
             }
-            let Ok((stream, _)) = self.listener.accept() else {
+            let Ok((stream, _)) = self.sockets.listener.accept() else {
                 break;
             };
             let _ = self.visit(stream);
