@@ -3,7 +3,7 @@ use super::loops::counts;
 use crate::helpers::devices::{keeper, link};
 use crate::helpers::failing_devices::{Calls, Failing};
 use crate::helpers::folders::{new_folder, remove_folder};
-use crate::helpers::hosts::Host;
+use crate::helpers::hosts::{Host, Hosted};
 use crate::helpers::lasting::lasting;
 use crate::helpers::played_loops::SEED;
 use bg_auto::{LoopFault, PARTIES, run_rounds};
@@ -20,8 +20,8 @@ fn keep<'a, R: Host>(
     folder: &str,
     party: u8,
     calls: &'a Calls,
-) -> Failing<'a, FileKeeper<'a, R>> {
-    Failing::new(keeper(rt, rt, folder, party, &calls.failures), calls)
+) -> Failing<'a, FileKeeper<'a, HostRuntime>> {
+    Failing::new(keeper(rt, rt.host(), folder, party, &calls.failures), calls)
 }
 
 /// The files of three parties.
@@ -29,7 +29,7 @@ fn keepers<'a, R: Host>(
     rt: &'a R,
     folder: &str,
     calls: &'a Calls,
-) -> Keepers<Failing<'a, FileKeeper<'a, R>>> {
+) -> Keepers<Failing<'a, FileKeeper<'a, HostRuntime>>> {
     Keepers {
         referee: keep(rt, folder, REFEREE, calls),
         x: keep(rt, folder, SEAT_OF_X, calls),
@@ -44,7 +44,7 @@ fn play_failing(
     calls: &Calls,
     text: &mut Vec<u8>,
 ) -> Result<(), LoopFault> {
-    let link = link(rt, rt, PARTIES, &calls.failures);
+    let link = link(rt, rt.host(), PARTIES, &calls.failures);
     let keepers = keepers(rt, folder, calls);
     play_ten(rt.alloc(), Failing::new(link, calls), keepers, text)
 }

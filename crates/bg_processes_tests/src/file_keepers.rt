@@ -1,7 +1,7 @@
 //! What is noted of files and folders that fail.
 use crate::helpers::devices::{failures, lasting_keeper};
 use crate::helpers::folders::{new_folder, path_in, remove_folder};
-use crate::helpers::hosts::Host;
+use crate::helpers::hosts::{Host, Hosted};
 use crate::helpers::lasting::lasting_text;
 use crate::helpers::stand_ins::stand_in;
 use crate::helpers::told_failures::check_told;
@@ -71,7 +71,7 @@ fn check_unsynced(rt: &impl Host) {
 
 /// Whether there is a file with no bytes.
 fn is_empty(rt: &impl Host, path: &str) -> bool {
-    match fs::read(rt, path) {
+    match fs::read(rt.host(), path) {
         Ok(bytes) => bytes.is_empty(),
         Err(_) => false,
     }

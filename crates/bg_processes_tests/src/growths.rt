@@ -3,7 +3,7 @@
 use super::failing_calls::is_sound;
 use crate::helpers::failing_devices::Calls;
 use crate::helpers::folders::{remove_folder, try_folder};
-use crate::helpers::hosts::Host;
+use crate::helpers::hosts::{Host, Hosted};
 use crate::helpers::lasting::lasting_text;
 use crate::helpers::played_loops::{SEED, SHORT, played, try_played};
 use crate::helpers::tables::Table;
@@ -16,7 +16,6 @@ use bg_world::WorldFault;
 use std::alloc::AllocError;
 use std::io::ErrorKind;
 use std::process::Abort;
-use std::random::RandomSource;
 use std::{fs, io};
 
 /// Fails where the growth that comes next is refused: so `tools/checks/refuse_growths` learns how
@@ -37,7 +36,7 @@ fn folder_at_last(rt: &impl Host, name: &str) -> &'static str {
 
 /// Removes a folder, by a second try where the first lacked memory.
 fn remove_at_last(rt: &impl Host, folder: &str) {
-    match fs::remove_dir_all(rt, folder) {
+    match fs::remove_dir_all(rt.host(), folder) {
         Err(error) if error.kind() == ErrorKind::OutOfMemory => remove_folder(rt, folder),
         result => result.expect(rt, "the folder is removed"),
     }
@@ -56,7 +55,7 @@ fn refused_growths_of_files(rt: HostRuntime) {
 }
 
 /// Files are written and read once more where memory was refused.
-fn check_files(rt: &(impl Host + RandomSource)) {
+fn check_files(rt: &impl Host) {
     let folder = folder_at_last(rt, "file-growths");
     let mut failed = false;
     for _ in 0..2 {
@@ -73,19 +72,15 @@ fn check_files(rt: &(impl Host + RandomSource)) {
 }
 
 /// Writes each kind of file, and reads those that are read.
-fn write_and_read(
-    rt: &(impl Host + RandomSource),
-    folder: &str,
-    file: &MatchFile,
-) -> io::Result<Option<MatchFile>> {
-    make_secret(rt, folder)?;
-    read_secret(rt, folder)?;
-    make_key_secret(rt, folder)?;
+fn write_and_read(rt: &impl Host, folder: &str, file: &MatchFile) -> io::Result<Option<MatchFile>> {
+    make_secret(rt.host(), folder)?;
+    read_secret(rt.host(), folder)?;
+    make_key_secret(rt.host(), folder)?;
     write_key(rt, folder, file)?;
     read_key(rt, folder)?;
-    file.write(rt, folder)?;
-    publish(rt, try_path(rt, folder, "board")?, b"board")?;
-    MatchFile::read(rt, try_path(rt, folder, "match")?)
+    file.write(rt.host(), folder)?;
+    publish(rt.host(), try_path(rt, folder, "board")?, b"board")?;
+    MatchFile::read(rt.host(), try_path(rt, folder, "match")?)
 }
 
 /// The path of a file in a folder, where there is memory.
@@ -99,14 +94,14 @@ fn try_path(
 }
 
 /// Writes the key of X, by the secret in the folder.
-fn write_key(rt: &(impl Host + RandomSource), folder: &str, file: &MatchFile) -> io::Result<()> {
-    let secret = read_key_secret(rt, folder)?;
-    KeyFile::derive(*file, &secret, 1).write(rt, folder)
+fn write_key(rt: &impl Host, folder: &str, file: &MatchFile) -> io::Result<()> {
+    let secret = read_key_secret(rt.host(), folder)?;
+    KeyFile::derive(*file, &secret, 1).write(rt.host(), folder)
 }
 
 /// Reads the key of X.
 fn read_key(rt: &impl Host, folder: &str) -> io::Result<()> {
-    KeyFile::read(rt, try_path(rt, folder, "match-x")?)?;
+    KeyFile::read(rt.host(), try_path(rt, folder, "match-x")?)?;
     Ok(())
 }
 

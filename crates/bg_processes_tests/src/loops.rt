@@ -1,6 +1,6 @@
 //! Matches over sockets and files.
 use crate::helpers::folders::{new_folder, path_in, remove_folder};
-use crate::helpers::hosts::Host;
+use crate::helpers::hosts::{Host, Hosted};
 use crate::helpers::played_loops::{SEED, SHORT, played, try_played};
 use crate::helpers::saved_records::{saved_record, text_of};
 use bg_auto::{LoopFault, sim_text};
@@ -155,7 +155,7 @@ fn check_other_files(rt: &impl Host) {
     played(rt, folder, SEED, SHORT, 10);
     check_stops(rt, folder, SEED + 1, RestoreCause::WrongMatch);
     for file in ["party-0.0", "party-0.1"] {
-        fs::write(rt, path_in(rt, folder, file), [0x42]).expect(rt, "a file is written");
+        fs::write(rt.host(), path_in(rt, folder, file), [0x42]).expect(rt, "a file is written");
     }
     check_stops(rt, folder, SEED, RestoreCause::Damaged);
     remove_folder(rt, folder);

@@ -1,5 +1,5 @@
 //! A party's socket, and what strangers send to it.
-use crate::helpers::hosts::Host;
+use crate::helpers::hosts::{Host, Hosted};
 use crate::helpers::lasting::lasting;
 use crate::helpers::party_scripts::{Sockets, check_script, lasting_sockets};
 use bg_processes::{Attendance, Change, Liveness, LivenessChange, Ticking, Waiting};
@@ -254,27 +254,27 @@ fn check_told_twice(rt: &impl Abort, waiting: &mut Waiting, empty_reads: u32) {
 
 /// A wait for a socket, which lasts as long as the process.
 fn waiting_for<'a>(rt: &impl Host, socket: RawFd) -> &'a mut Waiting {
-    let waiting = Waiting::new(rt, socket, false);
+    let waiting = Waiting::new(rt.host(), socket, false);
     lasting(rt, waiting.expect(rt, "a socket to wait for"))
 }
 
 /// Nothing comes for as long as is waited.
 fn check_time(rt: &impl Host, waiting: &mut Waiting) {
-    let begun = Instant::now(rt).expect(rt, "a clock");
+    let begun = Instant::now(rt.host()).expect(rt, "a clock");
     check_ready(rt, waiting, 0, 30, false);
-    let ended = Instant::now(rt).expect(rt, "a clock");
+    let ended = Instant::now(rt.host()).expect(rt, "a clock");
     assert!(rt; ended.duration_since(begun).as_millis() >= 25);
 }
 
 /// A first tick is due at once, and the next one after a wait.
 fn check_ticks(rt: &impl Host, waiting: &mut Waiting) {
-    let mut ticking = Ticking::new(rt).expect(rt, "a clock");
+    let mut ticking = Ticking::new(rt.host()).expect(rt, "a clock");
     for is_due in [true, false] {
-        assert!(rt; ticking.is_due(rt).expect(rt, "a clock") == is_due);
+        assert!(rt; ticking.is_due(rt.host()).expect(rt, "a clock") == is_due);
     }
-    let ready = ticking.wait(rt, waiting, 1).expect(rt, "a wait");
+    let ready = ticking.wait(rt.host(), waiting, 1).expect(rt, "a wait");
     assert!(rt; !ready.socket);
-    assert!(rt; ticking.is_due(rt).expect(rt, "a clock"));
+    assert!(rt; ticking.is_due(rt.host()).expect(rt, "a clock"));
 }
 
 /// Whether a socket of which so many reads found nothing can be read within so many milliseconds;

@@ -1,6 +1,6 @@
 //! How the other seat stands, as the referee's socket tells a seat of it.
 use crate::helpers::devices::failures;
-use crate::helpers::hosts::Host;
+use crate::helpers::hosts::{Host, Hosted};
 use crate::helpers::lasting::lasting;
 use crate::helpers::party_scripts::{SetClock, check_script, takes};
 use crate::helpers::tables::{free_port, keys_of};
@@ -62,7 +62,7 @@ fn a_seat_is_told_of_the_other(rt: HostRuntime) {
 /// The socket of a party that the test plays.
 fn socket_of(rt: &impl Host, port: u16, party: u8) -> UdpSocket {
     let own = port.saturating_add(u16::from(party));
-    let socket = UdpSocket::bind(rt, (Ipv4Addr::LOCALHOST, own)).expect(rt, "a free port");
+    let socket = UdpSocket::bind(rt.host(), (Ipv4Addr::LOCALHOST, own)).expect(rt, "a free port");
     socket.set_nonblocking(true).expect(rt, "a socket");
     socket
 }
@@ -137,6 +137,6 @@ fn referee<'a>(
     clock: &'a SetClock,
     port: u16,
 ) -> &'a mut PartySocket<'a, SetClock> {
-    let bound = PartySocket::bind(rt, clock, port, 0, keys_of(0), failures(rt));
+    let bound = PartySocket::bind(rt.host(), clock, port, 0, keys_of(0), failures(rt));
     lasting(rt, bound.expect(rt, "a free port"))
 }

@@ -1,7 +1,7 @@
 //! Which file has what: single calls of the files of a match, and the first rounds.
 use crate::helpers::devices::{failures, lasting_keeper};
 use crate::helpers::folders::{new_folder, path_in, remove_folder};
-use crate::helpers::hosts::Host;
+use crate::helpers::hosts::{Host, Hosted};
 use crate::helpers::played_loops::{SEED, SHORT, played};
 use crate::helpers::stand_ins::{StandIn, stand_in};
 use bg_wire::{Slot, load};
@@ -13,7 +13,7 @@ use std::{fs, io};
 
 /// The bytes of a file in a folder; none where there is no such file.
 fn file(rt: &impl Host, folder: &str, name: &str) -> Option<&'static [u8]> {
-    match fs::read(rt, path_in(rt, folder, name)) {
+    match fs::read(rt.host(), path_in(rt, folder, name)) {
         Ok(bytes) => {
             let bytes: &[u8] = bytes.leak();
             Some(bytes)
@@ -60,7 +60,7 @@ fn check_writes<K: Keeper>(rt: &impl Abort, keeper: &mut K, slot: Slot, bytes: &
 
 /// A folder has so many files.
 fn check_count(rt: &impl Host, folder: &str, count: usize) {
-    let files = fs::read_dir(rt, folder).expect(rt, "a folder");
+    let files = fs::read_dir(rt.host(), folder).expect(rt, "a folder");
     assert!(rt; files.count() == count);
 }
 
@@ -90,7 +90,7 @@ fn check_all_files(rt: &impl Host) {
 /// The writes of a party, and what its files have after each; of slot 0 nothing before it was
 /// written.
 fn check_files(rt: &impl Host, folder: &str, party: u8, zero: &str, one: &str) {
-    let keeper = lasting_keeper(rt, rt, folder, party, failures(rt));
+    let keeper = lasting_keeper(rt, rt.host(), folder, party, failures(rt));
     let (long, own, short) = (b"the longer text", [party], b"text");
     check_slots(rt, keeper, b"", b"");
     check_writes(rt, keeper, Slot::One, long);
@@ -144,7 +144,7 @@ const FAULTS: [(ErrorKind, DeviceFault); 3] = [
 ];
 
 /// No file is opened from now on, for this reason.
-fn fail_as<R: Host>(files: &StandIn<'_, R>, kind: ErrorKind) {
+fn fail_as(files: &StandIn<'_>, kind: ErrorKind) {
     files.files_fail.set(Some(io::Error::from(kind)));
 }
 

@@ -1,7 +1,7 @@
 //! Single calls of the sockets of a match.
 use crate::helpers::devices::{failures, lasting_link};
 use crate::helpers::folders::new_folder;
-use crate::helpers::hosts::Host;
+use crate::helpers::hosts::{Host, Hosted};
 use crate::helpers::lasting::lasting;
 use crate::helpers::party_scripts::{sends, takes};
 use crate::helpers::stand_ins::{StandIn, stand_in};
@@ -28,7 +28,7 @@ fn check_addresses(rt: &impl Host) {
     lasting_link(rt, net, 255, failures(rt));
     assert!(rt; net.opened() == 255 && !net.strayed.get());
     for index in 0..255 {
-        assert!(rt; is_loopback(net.address(index)), "socket {index}");
+        assert!(rt; is_loopback(net.address(rt, index)), "socket {index}");
     }
 }
 
@@ -60,7 +60,7 @@ fn datagrams_come_to_their_party(rt: HostRuntime) {
 
 /// The sockets of four parties.
 fn check_datagrams(rt: &impl Host) {
-    check_order(rt, lasting_link(rt, rt, 4, failures(rt)));
+    check_order(rt, lasting_link(rt, rt.host(), 4, failures(rt)));
 }
 
 fn check_order<L: Link>(rt: &impl Abort, link: &mut L) {
@@ -96,7 +96,7 @@ fn longer_datagrams_are_cut(rt: HostRuntime) {
 fn check_long(rt: &impl Host) {
     let net = stand_in(rt, 4);
     let link = lasting_link(rt, net, 4, failures(rt));
-    let socket = net.socket(3);
+    let socket = net.socket(rt, 3);
     for (count, taken) in [(0, 0), (255, 255), (256, 256), (257, 256), (600, 256)] {
         check_cut(rt, socket, link, count, taken);
     }
@@ -205,7 +205,7 @@ fn check_first(rt: &impl Host) {
         check_no_socket(rt, folder, length);
     }
     // It is empty: else it is not removed so.
-    fs::remove_dir(rt, folder).expect(rt, "an empty folder");
+    fs::remove_dir(rt.host(), folder).expect(rt, "an empty folder");
 }
 
 fn check_no_socket(rt: &impl Host, folder: &str, length: u8) {
@@ -215,8 +215,8 @@ fn check_no_socket(rt: &impl Host, folder: &str, length: u8) {
 }
 
 /// Why no match of this length is played over these sockets.
-fn refusal<R: Host>(
-    net: &StandIn<'_, R>,
+fn refusal(
+    net: &StandIn<'_>,
     length: u8,
     folder: &str,
     failures: &Failures,

@@ -1,7 +1,7 @@
 //! Sockets of a match among those of others, and what is noted of sockets that fail.
 use crate::helpers::devices::{failures, keeper, lasting_link, link};
 use crate::helpers::folders::{new_folder, remove_folder};
-use crate::helpers::hosts::Host;
+use crate::helpers::hosts::{Host, Hosted};
 use crate::helpers::lasting::lasting;
 use crate::helpers::party_scripts::sends;
 use crate::helpers::played_loops::{SEED, SHORT, played};
@@ -58,17 +58,17 @@ impl<'a> Observer for Forger<'a> {
 
 /// A socket that no party has, which lasts as long as the process.
 fn stranger<'a>(rt: &impl Host) -> &'a UdpSocket {
-    let socket = UdpSocket::bind(rt, (Ipv4Addr::LOCALHOST, 0));
+    let socket = UdpSocket::bind(rt.host(), (Ipv4Addr::LOCALHOST, 0));
     lasting(rt, socket.expect(rt, "a socket"))
 }
 
 /// A forger who knows the addresses of four sockets.
-fn lasting_forger<'a, R: Host>(rt: &R, net: &StandIn<'a, R>) -> &'a mut Forger<'a> {
+fn lasting_forger<'a>(rt: &impl Host, net: &StandIn<'_>) -> &'a mut Forger<'a> {
     let addresses = [
-        net.address(0),
-        net.address(1),
-        net.address(2),
-        net.address(3),
+        net.address(rt, 0),
+        net.address(rt, 1),
+        net.address(rt, 2),
+        net.address(rt, 3),
     ];
     let socket = stranger(rt);
     lasting(rt, Forger { socket, addresses })
@@ -79,11 +79,11 @@ fn keepers<'a, R: Host>(
     rt: &'a R,
     folder: &str,
     failures: &'a Failures,
-) -> Keepers<FileKeeper<'a, R>> {
+) -> Keepers<FileKeeper<'a, HostRuntime>> {
     Keepers {
-        referee: keeper(rt, rt, folder, REFEREE, failures),
-        x: keeper(rt, rt, folder, SEAT_OF_X, failures),
-        o: keeper(rt, rt, folder, SEAT_OF_O, failures),
+        referee: keeper(rt, rt.host(), folder, REFEREE, failures),
+        x: keeper(rt, rt.host(), folder, SEAT_OF_X, failures),
+        o: keeper(rt, rt.host(), folder, SEAT_OF_O, failures),
     }
 }
 
@@ -150,7 +150,7 @@ fn broken<'a>(rt: &impl Host, failures: &'a Failures) -> &'a mut UdpLink<'a> {
     let net = stand_in(rt, 3);
     let link = lasting_link(rt, net, 3, failures);
     for index in 0..2 {
-        let reached = net.socket(index).connect(closed(rt));
+        let reached = net.socket(rt, index).connect(closed(rt));
         reached.expect(rt, "an address to reach");
     }
     link
@@ -158,7 +158,7 @@ fn broken<'a>(rt: &impl Host, failures: &'a Failures) -> &'a mut UdpLink<'a> {
 
 /// The address of a socket that is closed.
 fn closed(rt: &impl Host) -> SocketAddr {
-    let socket = UdpSocket::bind(rt, (Ipv4Addr::LOCALHOST, 0)).expect(rt, "a socket");
+    let socket = UdpSocket::bind(rt.host(), (Ipv4Addr::LOCALHOST, 0)).expect(rt, "a socket");
     socket.local_addr().expect(rt, "an address")
 }
 
@@ -229,7 +229,7 @@ fn a_party_without_a_socket(rt: HostRuntime) {
 /// Sends to such a party fail, and are noted once.
 fn check_missing(rt: &impl Host) {
     let failures = failures(rt);
-    let link = lasting_link(rt, rt, 2, failures);
+    let link = lasting_link(rt, rt.host(), 2, failures);
     for _ in 0..2 {
         check_without(rt, link);
     }

@@ -1,34 +1,25 @@
 //! What the tests ask of the system.
-use std::env::Env;
-use std::fs::File;
-use std::net::Net;
 use std::process::Abort;
-use std::rt::Files;
-use std::time::Clock;
 
-/// A system that knows the number of its process.
-pub(crate) trait Numbered {
-    fn number(&self) -> u32;
+/// A test on the system that it runs on.
+pub(crate) trait Hosted {
+    /// Returns the system.
+    fn host(&self) -> &HostRuntime;
 }
 
-impl Numbered for HostRuntime {
-    fn number(&self) -> u32 {
-        std::process::id(self.process())
+impl Hosted for HostRuntime {
+    fn host(&self) -> &HostRuntime {
+        self
     }
 }
 
-/// All that the tests ask of the system, as one bound.
-pub(crate) trait Host: Numbered
-    + Net
-    + Files<File = File>
-    + Env
-    + Clock
-    + AllocGlobal
-    + Abort
-    + Clone
-    + Drop {}
+/// What tests need: the system itself, memory, and a way to end. With a bound for each of the
+/// system's devices, the check takes some seconds more for each function and each test.
+pub(crate) trait Host: Hosted + AllocGlobal + Abort {}
 
-impl<R> Host for R
-where
-    R: Numbered + Net + Files<File = File> + Env + Clock + AllocGlobal + Abort + Clone + Drop,
-{}
+impl<R: Hosted + AllocGlobal + Abort> Host for R {}
+
+/// Returns the number of the process.
+pub(crate) fn process_number(host: &HostRuntime) -> u32 {
+    std::process::id(host.process())
+}

@@ -15,7 +15,7 @@
 //! - "# ..": a comment.
 
 use crate::helpers::devices::failures;
-use crate::helpers::hosts::Host;
+use crate::helpers::hosts::{Host, Hosted};
 use crate::helpers::lasting::lasting;
 use crate::helpers::script_words::{packet_of, presence_of};
 use crate::helpers::tables::{free_port, keys_of};
@@ -129,7 +129,7 @@ impl<'a, R: Host> Sockets<'a, R> {
         keys: u8,
     ) -> io::Result<PartySocket<'a, SetClock>> {
         let keys = keys_of(keys);
-        PartySocket::bind(self.rt, self.clock, port, party, keys, self.failures)
+        PartySocket::bind(self.rt.host(), self.clock, port, party, keys, self.failures)
     }
 
     fn place(&mut self, party: u8) -> &mut Option<PartySocket<'a, SetClock>> {
@@ -250,7 +250,7 @@ impl<'a, R: Host> Sockets<'a, R> {
 
 /// Sends bytes to a port from a socket that no party has.
 fn send_from_elsewhere(rt: &impl Host, port: u16, bytes: &[u8], times: u32) {
-    let stranger = UdpSocket::bind(rt, (Ipv4Addr::LOCALHOST, 0)).expect(rt, "a socket");
+    let stranger = UdpSocket::bind(rt.host(), (Ipv4Addr::LOCALHOST, 0)).expect(rt, "a socket");
     for _ in 0..times {
         let sent = stranger.send_to(bytes, (Ipv4Addr::LOCALHOST, port));
         sent.expect(rt, "a datagram is sent");

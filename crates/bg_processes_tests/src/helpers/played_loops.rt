@@ -1,6 +1,6 @@
 //! Matches over sockets and files, from the start or from what a folder has.
 
-use crate::helpers::hosts::Host;
+use crate::helpers::hosts::{Host, Hosted};
 use bg_auto::LoopFault;
 use bg_match::{Rules, Terms};
 use bg_processes::{Failures, run_loop};
@@ -24,7 +24,7 @@ fn play(
     text: &mut Vec<u8>,
 ) -> Result<(), LoopFault> {
     run_loop(
-        rt,
+        rt.host(),
         seed,
         terms.length,
         terms.rules,

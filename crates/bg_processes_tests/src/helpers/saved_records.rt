@@ -1,6 +1,6 @@
 //! What the files of a folder restore.
 use crate::helpers::folders::path_in;
-use crate::helpers::hosts::Host;
+use crate::helpers::hosts::{Host, Hosted};
 use crate::helpers::lasting::lasting;
 use bg_match::{Record, Terms};
 use bg_processes::read_saved;
@@ -10,7 +10,7 @@ use std::process::Abort;
 
 /// The bytes of a slot's file.
 fn slot_bytes(rt: &impl Host, folder: &str, file: &str) -> &'static [u8] {
-    let bytes = read_saved(rt, path_in(rt, folder, file));
+    let bytes = read_saved(rt.host(), path_in(rt, folder, file));
     bytes.expect(rt, "a slot is read").leak()
 }
 

@@ -1,5 +1,6 @@
 //! A runtime that stands in for the system's: it has so many sockets and no more, and opens files,
 //! or some, or none.
+use crate::helpers::hosts::{Host, Hosted};
 use crate::helpers::lasting::lasting;
 use std::alloc::{Alloc, Allocator, Global};
 use std::cell::{Cell, RefCell};
@@ -12,8 +13,8 @@ use std::rt::Files;
 
 /// The system's files and sockets, as far as this lets them through.
 #[derive(Drop)]
-pub(crate) struct StandIn<'a, R> {
-    rt: &'a R,
+pub(crate) struct StandIn<'a> {
+    host: &'a HostRuntime,
     /// How many sockets may still be opened.
     sockets_left: Cell<usize>,
     /// Why no file is opened, if none is.
@@ -28,19 +29,19 @@ pub(crate) struct StandIn<'a, R> {
 }
 
 /// One that opens so many sockets, and all files. It lasts as long as the process.
-pub(crate) fn stand_in<R: AllocGlobal + Abort + Drop>(rt: &R, sockets: usize) -> &StandIn<'_, R> {
-    lasting(rt, StandIn::new(rt, sockets))
+pub(crate) fn stand_in<R: Host>(rt: &R, sockets: usize) -> &StandIn<'_> {
+    lasting(rt, StandIn::new(rt.host(), sockets))
 }
 
-impl<'a, R: AllocGlobal + Abort> StandIn<'a, R> {
-    fn new(rt: &'a R, sockets: usize) -> StandIn<'a, R> {
+impl<'a> StandIn<'a> {
+    fn new(host: &'a HostRuntime, sockets: usize) -> StandIn<'a> {
         StandIn {
-            rt,
+            host,
             sockets_left: Cell::new(sockets),
             files_fail: Cell::new(None),
             barred: Cell::new(""),
             strayed: Cell::new(false),
-            sockets: RefCell::new(Vec::new(rt.alloc())),
+            sockets: RefCell::new(Vec::new(host.alloc())),
         }
     }
 
@@ -53,14 +54,18 @@ impl<'a, R: AllocGlobal + Abort> StandIn<'a, R> {
     }
 
     /// Another handle of a socket, by the order in which they were opened.
-    pub(crate) fn socket(&self, index: usize) -> &'a UdpSocket {
+    pub(crate) fn socket<'b>(
+        &self,
+        rt: &(impl AllocGlobal + Abort),
+        index: usize,
+    ) -> &'b UdpSocket {
         let found = copied(&self.sockets, index);
-        lasting(self.rt, found.expect(self.rt, "a socket of this number"))
+        lasting(rt, found.expect(rt, "a socket of this number"))
     }
 
     /// Where a socket is reached.
-    pub(crate) fn address(&self, index: usize) -> SocketAddr {
-        address_of(&self.sockets, index).expect(self.rt, "the address of a socket")
+    pub(crate) fn address(&self, rt: &impl Abort, index: usize) -> SocketAddr {
+        address_of(&self.sockets, index).expect(rt, "the address of a socket")
     }
 }
 
@@ -91,15 +96,15 @@ fn keep(sockets: &RefCell<Vec<UdpSocket>>, socket: UdpSocket) -> io::Result<()> 
 /// Any port of this machine alone that the system chooses.
 const ANY_PORT: (Ipv4Addr, u16) = (Ipv4Addr::LOCALHOST, 0);
 
-impl<'a, R: AllocGlobal> Alloc for StandIn<'a, R> {
+impl<'a> Alloc for StandIn<'a> {
     type A = Global;
 
     fn alloc(&self) -> Global {
-        self.rt.alloc()
+        self.host.alloc()
     }
 }
 
-impl<'a, R: Net> Net for StandIn<'a, R> {
+impl<'a> Net for StandIn<'a> {
     type Stream = TcpStream;
 
     type Listener = TcpListener;
@@ -121,7 +126,7 @@ impl<'a, R: Net> Net for StandIn<'a, R> {
         if addr != SocketAddr::from(ANY_PORT) {
             self.strayed.set(true);
         }
-        let socket = self.rt.bind_udp(addr)?;
+        let socket = self.host.bind_udp(addr)?;
         keep(&self.sockets, socket.try_clone()?)?;
         Ok(socket)
     }
@@ -130,52 +135,52 @@ impl<'a, R: Net> Net for StandIn<'a, R> {
 /// The system's number of the error that a process has as many open files as it may.
 const TOO_MANY_OPEN_FILES: i32 = 24;
 
-impl<'a, R: Files<File = File>> Files for StandIn<'a, R> {
+impl<'a> Files for StandIn<'a> {
     type File = File;
 
-    type Dir = R::Dir;
+    type Dir = <HostRuntime as Files>::Dir;
 
     fn open_file(&self, how: &OpenOptions, path: &str) -> io::Result<File> {
         match self.files_fail.get() {
             Some(error) => Err(error),
             None if path == self.barred.get() => Err(io::Error::from(ErrorKind::PermissionDenied)),
-            None => self.rt.open_file(how, path),
+            None => self.host.open_file(how, path),
         }
     }
 
     fn open_dir(&self, path: &str) -> io::Result<Self::Dir> {
-        self.rt.open_dir(path)
+        self.host.open_dir(path)
     }
 
     fn metadata(&self, path: &str) -> io::Result<Metadata> {
-        self.rt.metadata(path)
+        self.host.metadata(path)
     }
 
     fn symlink_metadata(&self, path: &str) -> io::Result<Metadata> {
-        self.rt.symlink_metadata(path)
+        self.host.symlink_metadata(path)
     }
 
     fn copy(&self, from: &str, to: &str) -> io::Result<u64> {
-        self.rt.copy(from, to)
+        self.host.copy(from, to)
     }
 
     fn rename(&self, from: &str, to: &str) -> io::Result<()> {
-        self.rt.rename(from, to)
+        self.host.rename(from, to)
     }
 
     fn remove_file(&self, path: &str) -> io::Result<()> {
-        self.rt.remove_file(path)
+        self.host.remove_file(path)
     }
 
     fn create_dir(&self, path: &str) -> io::Result<()> {
-        self.rt.create_dir(path)
+        self.host.create_dir(path)
     }
 
     fn remove_dir(&self, path: &str) -> io::Result<()> {
-        self.rt.remove_dir(path)
+        self.host.remove_dir(path)
     }
 
     fn remove_dir_all<B: Allocator>(&self, alloc: B, path: &str) -> io::Result<()> {
-        self.rt.remove_dir_all(alloc, path)
+        self.host.remove_dir_all(alloc, path)
     }
 }

@@ -1,20 +1,18 @@
 //! All parties of a match as processes run them, over real sockets and folders.
 
 mod parties;
+mod processes;
 mod saved_matches;
 
 use crate::helpers::failing_devices::{Calls, Failing};
-use crate::helpers::hosts::Host;
+use crate::helpers::hosts::{Host, Hosted, process_number};
 use crate::helpers::played_loops::SHORT;
-use crate::helpers::tables::parties::{
-    begun_referee, begun_seat, begun_watcher, referee_round, seat_does, seat_round,
-};
+use crate::helpers::tables::parties::both;
+use crate::helpers::tables::processes::Running;
 use bg_auto::{NoObserver, Observer};
 use bg_board::Player;
 use bg_match::{Number, Rules, Terms};
-use bg_processes::{
-    Failures, FileKeeper, Going, Keyring, PartySocket, RefereeProcess, SeatProcess, WatcherProcess,
-};
+use bg_processes::{Failures, FileKeeper, Keyring, PartySocket};
 use bg_seals::MasterSecret;
 use bg_wire::{FIRST_WATCHER, REFEREE, SEAT_OF_O, SEAT_OF_X, party_of};
 use std::alloc::AllocError;
@@ -30,9 +28,9 @@ const WATCHER: u8 = 3;
 /// No match of the tests has as many turns.
 const MOST_TURNS: u32 = 20_000;
 
-type Socket<'a, R> = Failing<'a, PartySocket<'a, R>>;
+type Socket<'a> = Failing<'a, PartySocket<'a, HostRuntime>>;
 
-type Files<'a, R> = Failing<'a, FileKeeper<'a, R>>;
+type Files<'a> = Failing<'a, FileKeeper<'a, HostRuntime>>;
 
 /// A match between processes: those that run.
 #[derive(Drop)]
@@ -42,10 +40,7 @@ pub(crate) struct Table<'a, R> {
     port: u16,
     folder: &'a str,
     terms: Terms,
-    referee: Option<RefereeProcess<Socket<'a, R>, Files<'a, R>>>,
-    x: Option<SeatProcess<Socket<'a, R>, Files<'a, R>>>,
-    o: Option<SeatProcess<Socket<'a, R>, Files<'a, R>>>,
-    watcher: Option<WatcherProcess<Socket<'a, R>>>,
+    running: Running<Socket<'a>, Files<'a>>,
 }
 
 /// The keys of a party.
@@ -61,7 +56,8 @@ pub(crate) fn keys_of(party: u8) -> Keyring {
 /// Whether the port of a party is free.
 fn is_free(rt: &impl Host, port: u16, party: u8) -> bool {
     let failures = Failures::new();
-    PartySocket::bind(rt, rt, port, party, keys_of(party), &failures).is_ok()
+    let host = rt.host();
+    PartySocket::bind(host, host, port, party, keys_of(party), &failures).is_ok()
 }
 
 /// Whether those of five parties are free.
@@ -76,7 +72,7 @@ fn are_free(rt: &impl Host, port: u16) -> bool {
 
 /// A port such that those of five parties are free; for each `start` others are tried.
 pub(crate) fn free_port(rt: &impl Host, start: u16) -> u16 {
-    let mut port = start.saturating_add((rt.number() % 500) as u16 * 20);
+    let mut port = start.saturating_add((process_number(rt.host()) % 500) as u16 * 20);
     for _ in 0..500 {
         if are_free(rt, port) {
             return port;
@@ -94,64 +90,59 @@ impl<'a, R: Host> Table<'a, R> {
             port: free_port(rt, 20_000),
             folder,
             terms: Terms { rules, ..SHORT },
-            referee: None,
-            x: None,
-            o: None,
-            watcher: None,
+            running: Running::none(),
         }
     }
 
-    fn socket(&self, party: u8) -> io::Result<Socket<'a, R>> {
-        let (rt, keys) = (self.rt, keys_of(party));
-        let bound = PartySocket::bind(rt, rt, self.port, party, keys, &self.calls.failures);
+    fn socket(&self, party: u8) -> io::Result<Socket<'a>> {
+        let (host, keys) = (self.rt.host(), keys_of(party));
+        let bound = PartySocket::bind(host, host, self.port, party, keys, &self.calls.failures);
         Failing::over(bound, self.calls)
     }
 
-    fn keeper(&self, party: u8) -> Result<Files<'a, R>, AllocError> {
-        let keeper = FileKeeper::new(self.rt, self.folder, party, &self.calls.failures);
+    fn keeper(&self, party: u8) -> Result<Files<'a>, AllocError> {
+        let keeper = FileKeeper::new(self.rt.host(), self.folder, party, &self.calls.failures);
         Failing::over(keeper, self.calls)
     }
 
-    /// A round of the referee, which begins first where it does not run. Whether the match is over
-    /// for it.
-    fn referee_turn(&mut self) -> bool {
-        if self.referee.is_none() {
-            let (socket, keeper) = (self.socket(REFEREE), self.keeper(REFEREE));
-            self.referee = begun_referee(self.rt.alloc(), self.terms, socket, keeper);
-        }
-        referee_round(&mut self.referee)
+    /// The socket and the files of the referee or of a seat, unless one of them can't be had now.
+    fn devices(&self, party: u8) -> Option<(Socket<'a>, Files<'a>)> {
+        both(self.socket(party), self.keeper(party))
     }
 
-    fn seat(&mut self, player: Player) -> &mut Option<SeatProcess<Socket<'a, R>, Files<'a, R>>> {
-        match player {
-            Player::X => &mut self.x,
-            Player::O => &mut self.o,
+    /// The referee or a seat begins where it does not run.
+    fn begin(&mut self, party: u8) {
+        if !self.running.runs(party) {
+            let devices = self.devices(party);
+            self.running
+                .begin(self.rt.alloc(), party, self.terms, devices);
         }
     }
 
-    /// A seat begins where it does not run.
-    fn begin_seat(&mut self, player: Player) {
-        if self.seat(player).is_none() {
-            let party = party_of(player);
-            let (socket, keeper) = (self.socket(party), self.keeper(party));
-            *self.seat(player) = begun_seat(self.rt.alloc(), player, self.terms, socket, keeper);
+    /// The watcher begins where he does not run.
+    fn begin_watcher(&mut self) {
+        if !self.running.runs(WATCHER) {
+            let socket = self.socket(WATCHER).expect(self.rt, "the watcher's socket");
+            self.running
+                .begin_watcher(self.rt.alloc(), self.terms, socket);
         }
     }
 
-    /// A round of a seat, which plays by itself, and begins first where it does not run.
-    fn seat_turn(&mut self, player: Player) -> bool {
-        self.begin_seat(player);
-        seat_round(self.rt.alloc(), player, self.seat(player))
+    /// A round of a party, which begins first where it does not run. Whether the match is over for
+    /// it.
+    fn round(&mut self, party: u8) -> bool {
+        if party == WATCHER {
+            self.begin_watcher();
+        } else {
+            self.begin(party);
+        }
+        self.running.round(self.rt.alloc(), party)
     }
 
     /// Whether a seat, which begins first where it does not run, does what a word says.
     fn seat_step<O: Observer>(&mut self, player: Player, word: &str, observer: &mut O) -> bool {
-        self.begin_seat(player);
-        let alloc = self.rt.alloc();
-        match self.seat(player) {
-            Some(process) => seat_does(alloc, player, process, word, observer),
-            None => false,
-        }
+        self.begin(party_of(player));
+        self.running.does(self.rt.alloc(), player, word, observer)
     }
 
     /// Whether a party does what a word says. Where a choice is lost, the next call of a device
@@ -165,38 +156,17 @@ impl<'a, R: Host> Table<'a, R> {
         } else if party == "o" {
             self.seat_step(Player::O, word, o)
         } else {
-            party == "referee" && !self.referee_turn()
-        }
-    }
-
-    /// A round of the watcher, who begins first where he does not run.
-    fn watcher_turn(&mut self) -> bool {
-        if self.watcher.is_none() {
-            let socket = self.socket(WATCHER).expect(self.rt, "the watcher's socket");
-            self.watcher = begun_watcher(self.rt.alloc(), self.terms, socket);
-        }
-        match &mut self.watcher {
-            Some(process) => process.round(true, &mut NoObserver) == Going::Over,
-            None => false,
+            party == "referee" && !self.round(REFEREE)
         }
     }
 
     /// A round of each party. Whether the match is over for everybody.
     fn turn(&mut self) -> bool {
-        let mut is_over = self.referee_turn();
-        is_over &= self.seat_turn(Player::X);
-        is_over &= self.seat_turn(Player::O);
-        is_over & self.watcher_turn()
-    }
-
-    /// Ends the process of a party, as a kill does.
-    fn end(&mut self, party: u32) {
-        match party {
-            0 => self.referee = None,
-            1 => self.x = None,
-            2 => self.o = None,
-            _ => self.watcher = None,
+        let mut is_over = true;
+        for party in REFEREE..=WATCHER {
+            is_over &= self.round(party);
         }
+        is_over
     }
 
     /// Rounds of all parties in turn until the match is over for everybody; about one turn in so
@@ -210,7 +180,7 @@ impl<'a, R: Host> Table<'a, R> {
             }
             seed = seed.wrapping_mul(1_664_525).wrapping_add(1_013_904_223);
             if kills > 0 && (seed >> 8).checked_rem(kills) == Some(0) {
-                self.end(seed >> 28 & 3);
+                self.running.end(seed >> 28 & 3);
             }
         }
         panic!(rt; "the match did not end")
@@ -230,8 +200,8 @@ impl<'a, R: Host> Table<'a, R> {
 
     /// How many entries the watcher holds.
     fn watched(&self) -> Number {
-        match &self.watcher {
-            Some(process) => process.held().len(),
+        match self.running.watched() {
+            Some(record) => record.len(),
             None => 0,
         }
     }

@@ -8,14 +8,22 @@ use bg_world::{Keeper, Link, Outcome};
 use std::alloc::{AllocError, Global};
 use std::io;
 
+/// The devices of a party, where both can be had.
+pub(super) fn both<L: Drop, K: Drop>(
+    link: io::Result<L>,
+    keeper: Result<K, AllocError>,
+) -> Option<(L, K)> {
+    Some((link.ok()?, keeper.ok()?))
+}
+
 /// The referee's process, unless it can't begin now.
 pub(super) fn begun_referee<L: Link + Drop, K: Keeper + Drop>(
     alloc: Global,
     terms: Terms,
-    link: io::Result<L>,
-    keeper: Result<K, AllocError>,
+    link: L,
+    keeper: K,
 ) -> Option<RefereeProcess<L, K>> {
-    match RefereeProcess::begin(alloc, ID, terms, KEY, link.ok()?, keeper.ok()?) {
+    match RefereeProcess::begin(alloc, ID, terms, KEY, link, keeper) {
         Ok((process, Outcome::Restarted)) => Some(process),
         _ => None,
     }
@@ -26,10 +34,10 @@ pub(super) fn begun_seat<L: Link + Drop, K: Keeper + Drop>(
     alloc: Global,
     player: Player,
     terms: Terms,
-    link: io::Result<L>,
-    keeper: Result<K, AllocError>,
+    link: L,
+    keeper: K,
 ) -> Option<SeatProcess<L, K>> {
-    match SeatProcess::begin(alloc, player, ID, terms, link.ok()?, keeper.ok()?) {
+    match SeatProcess::begin(alloc, player, ID, terms, link, keeper) {
         Ok((process, Outcome::Restarted)) => Some(process),
         _ => None,
     }
@@ -146,4 +154,12 @@ pub(super) fn seat_round<L: Link + Drop, K: Keeper + Drop>(
         *running = None;
     }
     going == Some(Going::Over)
+}
+
+/// A round of the watcher, where he runs. Whether the match is over for him.
+pub(super) fn watcher_round<L: Link>(running: &mut Option<WatcherProcess<L>>) -> bool {
+    match running {
+        Some(process) => process.round(true, &mut NoObserver) == Going::Over,
+        None => false,
+    }
 }

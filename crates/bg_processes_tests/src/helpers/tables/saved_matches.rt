@@ -20,7 +20,7 @@ impl<'a, R: Host> Table<'a, R> {
         for party in [SEAT_OF_X, SEAT_OF_O] {
             assert!(rt; text_of(rt, self.saved(party)) == text, "party {party}");
         }
-        let watcher = self.watcher.as_ref().expect(rt, "the watcher runs");
-        assert!(rt; text_of(rt, watcher.held()) == text, "the watcher");
+        let watched = self.running.watched().expect(rt, "the watcher runs");
+        assert!(rt; text_of(rt, watched) == text, "the watcher");
     }
 }
