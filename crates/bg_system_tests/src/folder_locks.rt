@@ -6,18 +6,21 @@ use std::io::ErrorKind;
 use std::os::unix::fs::symlink;
 
 /// Whether the folder is locked by another.
-fn is_taken(rt: &impl Host, folder: &str) -> bool {
-    matches!(FolderLock::take(rt, folder), Err(TryLockError::WouldBlock))
+fn is_taken(host: &HostRuntime, folder: &str) -> bool {
+    matches!(
+        FolderLock::take(host, folder),
+        Err(TryLockError::WouldBlock)
+    )
 }
 
 /// Whether the folder is locked by nobody.
-fn is_free(rt: &impl Host, folder: &str) -> bool {
-    FolderLock::take(rt, folder).is_ok()
+fn is_free(host: &HostRuntime, folder: &str) -> bool {
+    FolderLock::take(host, folder).is_ok()
 }
 
 /// Whether there is no such folder to be locked.
-fn is_missing(rt: &impl Host, folder: &str) -> bool {
-    match FolderLock::take(rt, folder) {
+fn is_missing(host: &HostRuntime, folder: &str) -> bool {
+    match FolderLock::take(host, folder) {
         Err(TryLockError::Error(error)) => error.kind() == ErrorKind::NotFound,
         _ => false,
     }
@@ -26,15 +29,16 @@ fn is_missing(rt: &impl Host, folder: &str) -> bool {
 /// While a folder is locked nobody else can lock it, by another name neither; other folders are
 /// free.
 fn check_lock(rt: &impl Host, folder: &str, alias: &str, other: &str) {
-    let _lock = FolderLock::take(rt, folder).expect(rt, "a lock");
-    let is_alone = is_taken(rt, folder) && is_taken(rt, alias) && is_free(rt, other);
+    let host = rt.host();
+    let _lock = FolderLock::take(host, folder).expect(rt, "a lock");
+    let is_alone = is_taken(host, folder) && is_taken(host, alias) && is_free(host, other);
     assert!(rt; is_alone, "one lock, and that of one folder");
 }
 
 /// A folder in another one, and a link to it.
 fn make_folders(rt: &impl Host, inside: &str, alias: &str) {
     make_folder(rt, inside);
-    symlink(rt, inside, alias).expect(rt, "a link");
+    symlink(rt.host(), inside, alias).expect(rt, "a link");
 }
 
 #[test]
@@ -49,9 +53,9 @@ fn check_locks(rt: &impl Host) {
     let alias = path_in(rt, folder, "alias");
     make_folders(rt, inside, alias);
     check_lock(rt, inside, alias, folder);
-    assert!(rt; is_free(rt, alias), "it was locked for a while");
+    assert!(rt; is_free(rt.host(), alias), "it was locked for a while");
     // Nothing is left in it.
     remove_empty(rt, inside);
-    assert!(rt; is_missing(rt, inside), "it is gone");
+    assert!(rt; is_missing(rt.host(), inside), "it is gone");
     remove_folder(rt, folder);
 }

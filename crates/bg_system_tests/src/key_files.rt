@@ -97,12 +97,12 @@ fn texts_of_no_key_file(rt: HostRuntime) {
 
 /// The key file at a path, if that is one.
 fn read(rt: &impl Host, path: &str) -> Option<KeyFile> {
-    KeyFile::read(rt, path).expect(rt, "a file is read")
+    KeyFile::read(rt.host(), path).expect(rt, "a file is read")
 }
 
 /// Whether there is no file at a path.
-fn is_missing(rt: &impl Host, path: &str) -> bool {
-    match KeyFile::read(rt, path) {
+fn is_missing(host: &HostRuntime, path: &str) -> bool {
+    match KeyFile::read(host, path) {
         Ok(_) => false,
         Err(error) => error.kind() == ErrorKind::NotFound,
     }
@@ -111,7 +111,8 @@ fn is_missing(rt: &impl Host, path: &str) -> bool {
 /// The file with the key of a party is written, for its owner alone.
 fn write_key(rt: &impl Host, folder: &str, party: u8) {
     let file = KeyFile::derive(TABLE, &secret(), party);
-    file.write(rt, folder).expect(rt, "a file is written");
+    file.write(rt.host(), folder)
+        .expect(rt, "a file is written");
 }
 
 /// A key file with these bytes is none.
@@ -123,7 +124,7 @@ fn check_unread(rt: &impl Host, path: &str, bytes: &[u8]) {
 /// The file with the key of a party is written and read, by this name.
 fn check_file(rt: &impl Host, folder: &str, party: u8, name: &str) {
     let path = path_in(rt, folder, name);
-    let is_first = name_of_key_file(party) == name && is_missing(rt, path);
+    let is_first = name_of_key_file(party) == name && is_missing(rt.host(), path);
     assert!(rt; is_first, "{name} before");
     write_key(rt, folder, party);
     let file = read(rt, path).expect(rt, "a key file");
@@ -178,26 +179,26 @@ fn a_referee_with_key_files(rt: HostRuntime) {
 }
 
 fn make_secret(rt: &impl Host, folder: &str) {
-    make_key_secret(rt, folder).expect(rt, "a secret is made");
+    make_key_secret(rt.host(), folder).expect(rt, "a secret is made");
 }
 
 /// Makes two secrets of keys in a folder, of which the second is another one.
 fn make_two(rt: &impl Host, folder: &str, path: &str) {
     make_secret(rt, folder);
-    let first = fs::read(rt, path).expect(rt, "a file is read");
+    let first = fs::read(rt.host(), path).expect(rt, "a file is read");
     make_secret(rt, folder);
     assert!(rt; !has_bytes(rt, path, &first), "another secret");
 }
 
 /// Whether the secret in a folder has this key of a party of match 1.
 fn has_key(rt: &impl Host, folder: &str, party: u8) -> bool {
-    let read = read_key_secret(rt, folder).expect(rt, "a secret is read");
+    let read = read_key_secret(rt.host(), folder).expect(rt, "a secret is read");
     *read.key_of(1, party).bytes() == *key_of(1, party).bytes()
 }
 
 /// Why the secret in a folder can't be read.
-fn why_unread(rt: &impl Host, folder: &str) -> Option<ErrorKind> {
-    match read_key_secret(rt, folder) {
+fn why_unread(host: &HostRuntime, folder: &str) -> Option<ErrorKind> {
+    match read_key_secret(host, folder) {
         Ok(_) => None,
         Err(error) => Some(error.kind()),
     }
@@ -217,7 +218,7 @@ fn check_secrets(rt: &impl Host) {
     assert!(rt; has_key(rt, folder, 3), "a known secret");
     write_file(rt, path, &[1; 31]);
     assert!(rt;
-        why_unread(rt, folder) == Some(ErrorKind::InvalidData),
+        why_unread(rt.host(), folder) == Some(ErrorKind::InvalidData),
         "31 bytes"
     );
     remove_folder(rt, folder);

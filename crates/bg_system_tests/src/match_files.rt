@@ -105,8 +105,8 @@ const OTHER_TEXTS: &str = "\
     match 7 length 3 port 4000\n";
 
 /// What a match file says, or why it can't be read.
-fn read(rt: &impl Host, path: &str) -> Result<Option<MatchFile>, ErrorKind> {
-    match MatchFile::read(rt, path) {
+fn read(host: &HostRuntime, path: &str) -> Result<Option<MatchFile>, ErrorKind> {
+    match MatchFile::read(host, path) {
         Ok(file) => Ok(file),
         Err(error) => Err(error.kind()),
     }
@@ -114,13 +114,14 @@ fn read(rt: &impl Host, path: &str) -> Result<Option<MatchFile>, ErrorKind> {
 
 /// The file is written into a folder.
 fn write(rt: &impl Host, folder: &str) {
-    FILE.write(rt, folder).expect(rt, "a file is written");
+    FILE.write(rt.host(), folder)
+        .expect(rt, "a file is written");
 }
 
 /// A match file with these bytes says nothing.
 fn check_unread(rt: &impl Host, path: &str, bytes: &[u8]) {
     write_file(rt, path, bytes);
-    assert!(rt; read(rt, path) == Ok(None), "{bytes:?}");
+    assert!(rt; read(rt.host(), path) == Ok(None), "{bytes:?}");
 }
 
 #[test]
@@ -132,10 +133,10 @@ fn match_files_are_written_and_read(rt: HostRuntime) {
 fn check_written(rt: &impl Host) {
     let folder = new_folder(rt, "match-file");
     let path = path_in(rt, folder, "match");
-    assert!(rt; read(rt, path) == Err(ErrorKind::NotFound));
+    assert!(rt; read(rt.host(), path) == Err(ErrorKind::NotFound));
     write(rt, folder);
     assert!(rt; has_bytes(rt, path, TEXT.as_bytes()) && mode_of(rt, path) == 0o600);
-    assert!(rt; read(rt, path) == Ok(Some(FILE)));
+    assert!(rt; read(rt.host(), path) == Ok(Some(FILE)));
     check_unread(rt, path, b"match 1");
     check_unread(rt, path, TEXT.trim_end().as_bytes());
     check_unread(rt, path, &[0xff, 0xfe]);
@@ -144,14 +145,14 @@ fn check_written(rt: &impl Host) {
 
 /// Makes a secret in a folder, and reads it.
 fn made_secret(rt: &impl Host, folder: &str) -> [u8; 32] {
-    make_secret(rt, folder).expect(rt, "a secret is made");
-    read_secret(rt, folder).expect(rt, "a secret is read")
+    make_secret(rt.host(), folder).expect(rt, "a secret is made");
+    read_secret(rt.host(), folder).expect(rt, "a secret is read")
 }
 
 /// A file of so many bytes is no secret.
 fn check_no_secret(rt: &impl Host, folder: &str, path: &str, bytes: &[u8]) {
     write_file(rt, path, bytes);
-    let kind = match read_secret(rt, folder) {
+    let kind = match read_secret(rt.host(), folder) {
         Ok(_) => None,
         Err(error) => Some(error.kind()),
     };
@@ -179,7 +180,7 @@ fn check_secrets(rt: &impl Host) {
 
 /// A file is published with these bytes, and has them.
 fn check_published(rt: &impl Host, path: &str, bytes: &[u8]) {
-    publish(rt, path, bytes).expect(rt, "a file is published");
+    publish(rt.host(), path, bytes).expect(rt, "a file is published");
     assert!(rt; has_bytes(rt, path, bytes), "{bytes:?}");
 }
 

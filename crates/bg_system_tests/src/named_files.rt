@@ -159,11 +159,12 @@ pub(crate) fn check_no_key_file(rt: &(impl AllocGlobal + Abort), lines: &str, en
 
 /// A file is written into a folder, and read as it was.
 pub(crate) fn check_written(rt: &impl Host, folder: &str, file: &NamedMatch) {
-    file.write(rt, folder).expect(rt, "a file is written");
+    file.write(rt.host(), folder)
+        .expect(rt, "a file is written");
     let path = path_in(rt, folder, "match");
-    let read = NamedMatch::read(rt, path).expect(rt, "a file is read");
+    let read = NamedMatch::read(rt.host(), path).expect(rt, "a file is read");
     assert!(rt; read == Some(*file), "the match with its names");
-    let read = MatchFile::read(rt, path).expect(rt, "a file is read");
+    let read = MatchFile::read(rt.host(), path).expect(rt, "a file is read");
     assert!(rt; read == Some(file.table), "the match");
 }
 
@@ -176,9 +177,10 @@ pub(crate) fn named_keys(rt: &impl Abort, table: MatchFile, names: &Names) -> Ke
 
 /// The key file of who watches is written into a folder, and read as it was.
 pub(crate) fn check_written_key(rt: &impl Host, folder: &str, file: &KeyFile) {
-    file.write(rt, folder).expect(rt, "a file is written");
+    file.write(rt.host(), folder)
+        .expect(rt, "a file is written");
     let path = path_in(rt, folder, "match-watch");
-    let read = KeyFile::read(rt, path).expect(rt, "a file is read");
+    let read = KeyFile::read(rt.host(), path).expect(rt, "a file is read");
     let read = read.expect(rt, "a key file");
     let holds = read.table == file.table && is_named(&read, &file.names, 3);
     assert!(rt; holds, "the key");

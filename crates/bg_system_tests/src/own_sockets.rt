@@ -5,7 +5,7 @@ use std::net::{Ipv4Addr, SocketAddr, UdpSocket};
 use std::process::Abort;
 
 fn opened(rt: &impl Host) -> OwnSocket {
-    OwnSocket::open(rt).expect(rt, "a socket")
+    OwnSocket::open(rt.host()).expect(rt, "a socket")
 }
 
 /// What the socket has next is this, and nothing where this is none.
@@ -53,7 +53,7 @@ fn check_order_of(rt: &impl Abort, own: &OwnSocket) {
 }
 
 fn stranger(rt: &impl Host) -> UdpSocket {
-    UdpSocket::bind(rt, (Ipv4Addr::LOCALHOST, 0)).expect(rt, "a socket")
+    UdpSocket::bind(rt.host(), (Ipv4Addr::LOCALHOST, 0)).expect(rt, "a socket")
 }
 
 /// A stranger sends bytes so often, as far as there is room.
@@ -65,7 +65,7 @@ fn stray(stranger: &UdpSocket, bytes: &[u8], times: u32, to: SocketAddr) {
 
 /// A socket that hears itself alone from now on, to which a stranger sent before.
 fn opened_late(rt: &impl Host, stranger: &UdpSocket) -> OwnSocket {
-    let own = OwnSocket::bind(rt).expect(rt, "a socket");
+    let own = OwnSocket::bind(rt.host()).expect(rt, "a socket");
     hear_late(rt, &own, stranger);
     own
 }

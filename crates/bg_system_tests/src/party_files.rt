@@ -24,9 +24,9 @@ fn write_both(rt: &impl Abort, host: &HostRuntime, folder: &str) {
 }
 
 /// A new folder of this name for a party that has written to both slots.
-fn written_folder(rt: &impl Host, host: &HostRuntime, name: &str) -> &'static str {
+fn written_folder(rt: &impl Host, name: &str) -> &'static str {
     let folder = new_folder(rt, name);
-    write_both(rt, host, folder);
+    write_both(rt, rt.host(), folder);
     folder
 }
 
@@ -48,13 +48,13 @@ fn check_another(rt: &impl Host, files: &mut Files<'_>, folder: &str) {
 /// is back.
 #[test]
 fn a_folder_that_is_away_for_a_while(rt: HostRuntime) {
-    check_away_for_a_while(&rt, &rt);
+    check_away_for_a_while(&rt);
 }
 
-fn check_away_for_a_while(rt: &impl Host, host: &HostRuntime) {
-    let folder = written_folder(rt, host, "away");
+fn check_away_for_a_while(rt: &impl Host) {
+    let folder = written_folder(rt, "away");
     let failures = Failures::new();
-    let mut files = files_of(rt, host, folder, 1, &failures);
+    let mut files = files_of(rt, rt.host(), folder, 1, &failures);
     move_for_a_while(rt, &mut files, &failures, folder);
 }
 
@@ -84,15 +84,15 @@ fn check_begins(rt: &(impl AllocGlobal + Abort), failures: &Failures, words: &st
 /// A folder that is missing from the beginning has no empty slots either: it may be away.
 #[test]
 fn a_folder_that_is_away_at_first(rt: HostRuntime) {
-    check_away_at_first(&rt, &rt);
+    check_away_at_first(&rt);
 }
 
-fn check_away_at_first(rt: &impl Host, host: &HostRuntime) {
-    let folder = written_folder(rt, host, "away-at-first");
+fn check_away_at_first(rt: &impl Host) {
+    let folder = written_folder(rt, "away-at-first");
     let elsewhere = elsewhere(rt, folder);
     rename(rt, folder, elsewhere);
     let failures = Failures::new();
-    let mut files = files_of(rt, host, folder, 1, &failures);
+    let mut files = files_of(rt, rt.host(), folder, 1, &failures);
     move_back(rt, &mut files, &failures, elsewhere, folder);
 }
 
@@ -114,28 +114,22 @@ fn move_back(
 /// A folder in the place of that which the files were read from is said to be another.
 #[test]
 fn another_folder_is_said(rt: HostRuntime) {
-    check_replaced(&rt, &rt);
+    check_replaced(&rt);
 }
 
-fn check_replaced(rt: &impl Host, host: &HostRuntime) {
-    let folder = written_folder(rt, host, "replaced");
+fn check_replaced(rt: &impl Host) {
+    let folder = written_folder(rt, "replaced");
     let failures = Failures::new();
-    let mut files = files_of(rt, host, folder, 1, &failures);
-    replace(rt, host, &mut files, &failures, folder);
+    let mut files = files_of(rt, rt.host(), folder, 1, &failures);
+    replace(rt, &mut files, &failures, folder);
 }
 
 /// A copy of the folder, which is another one too, comes to its place.
-fn replace(
-    rt: &impl Host,
-    host: &HostRuntime,
-    files: &mut Files<'_>,
-    failures: &Failures,
-    folder: &str,
-) {
+fn replace(rt: &impl Host, files: &mut Files<'_>, failures: &Failures, folder: &str) {
     let elsewhere = elsewhere(rt, folder);
     check_have(rt, files, b"zero", b"one", "before");
     rename(rt, folder, elsewhere);
-    written_folder(rt, host, "replaced");
+    written_folder(rt, "replaced");
     check_away(rt, files, "a copy in its place");
     let lines = "DIR can't be found: another folder stands there than at the start\n";
     check_told(rt, failures, lines);
@@ -157,24 +151,18 @@ fn check_missing(rt: &impl Host, files: &mut Files<'_>, failures: &Failures, pat
 /// A slot whose file was there and is missing is not empty; one that never had a file is.
 #[test]
 fn a_file_that_is_missing(rt: HostRuntime) {
-    check_missing_file(&rt, &rt);
+    check_missing_file(&rt);
 }
 
-fn check_missing_file(rt: &impl Host, host: &HostRuntime) {
+fn check_missing_file(rt: &impl Host) {
     let folder = new_folder(rt, "missing");
     let failures = Failures::new();
-    let mut files = files_of(rt, host, folder, 2, &failures);
-    miss_file(rt, host, &mut files, &failures, folder);
+    let mut files = files_of(rt, rt.host(), folder, 2, &failures);
+    miss_file(rt, &mut files, &failures, folder);
 }
 
 /// The file of a slot is taken away, put back, and taken away.
-fn miss_file(
-    rt: &impl Host,
-    host: &HostRuntime,
-    files: &mut Files<'_>,
-    failures: &Failures,
-    folder: &str,
-) {
+fn miss_file(rt: &impl Host, files: &mut Files<'_>, failures: &Failures, folder: &str) {
     let path = path_in(rt, folder, "party-2.1");
     check_have(rt, files, b"", b"", "no file yet");
     check_writes(rt, files, Slot::One, b"one");
@@ -185,7 +173,7 @@ fn miss_file(
     check_have(rt, files, b"zero", b"put back", "put back");
     remove_file(rt, path);
     assert!(rt;
-        next_process_has(host, folder, b"zero", b""),
+        next_process_has(rt.host(), folder, b"zero", b""),
         "the next process"
     );
     remove_folder(rt, folder);
@@ -203,14 +191,14 @@ fn next_process_has(rt: &HostRuntime, folder: &str, zero: &[u8], one: &[u8]) -> 
 /// What is no plain file is neither read nor written; here it is a folder.
 #[test]
 fn no_plain_file(rt: HostRuntime) {
-    check_no_plain_file(&rt, &rt);
+    check_no_plain_file(&rt);
 }
 
-fn check_no_plain_file(rt: &impl Host, host: &HostRuntime) {
+fn check_no_plain_file(rt: &impl Host) {
     let folder = new_folder(rt, "no-plain-file");
     make_folder(rt, path_in(rt, folder, "party-1.0"));
     let failures = Failures::new();
-    let mut files = files_of(rt, host, folder, 1, &failures);
+    let mut files = files_of(rt, rt.host(), folder, 1, &failures);
     check_no_file(rt, &mut files, &failures);
     remove_folder(rt, folder);
 }
@@ -227,11 +215,11 @@ fn check_no_file(rt: &(impl AllocGlobal + Abort), files: &mut Files<'_>, failure
 /// Only its owner reads a saved file.
 #[test]
 fn modes_of_slot_files(rt: HostRuntime) {
-    check_modes(&rt, &rt);
+    check_modes(&rt);
 }
 
-fn check_modes(rt: &impl Host, host: &HostRuntime) {
-    let folder = written_folder(rt, host, "modes");
+fn check_modes(rt: &impl Host) {
+    let folder = written_folder(rt, "modes");
     for name in ["party-1.0", "party-1.1"] {
         let mode = mode_of(rt, path_in(rt, folder, name));
         assert!(rt; mode == 0o600, "{name}: {mode:o}");
