@@ -19,7 +19,7 @@ const MATCH: u64 = 1;
 
 /// A socket that never waits for long.
 fn client(rt: &impl Host) -> UdpSocket {
-    let socket = UdpSocket::bind(rt, (Ipv4Addr::LOCALHOST, 0)).expect(rt, "a socket");
+    let socket = UdpSocket::bind(rt.host(), (Ipv4Addr::LOCALHOST, 0)).expect(rt, "a socket");
     let waits = socket.set_read_timeout(Some(Duration::from_millis(200)));
     waits.expect(rt, "a socket that waits");
     socket
@@ -53,27 +53,27 @@ fn send(rt: &impl Abort, socket: &UdpSocket, packet: &Packet, to: SocketAddr)
     sent.expect(rt, "a datagram is sent");
 }
 
-fn open<'a, R: Host>(rt: &'a R, folder: &str, length: u8) -> RefereeHost<'a, R> {
-    let host = RefereeHost::open(rt, folder, 0, MATCH, length, Rules::One);
+fn open<'a>(rt: &'a impl Host, folder: &str, length: u8) -> RefereeHost<'a, HostRuntime> {
+    let host = RefereeHost::open(rt.host(), folder, 0, MATCH, length, Rules::One);
     host.expect(rt, "a host")
 }
 
 /// Why no host of this match begins.
-fn refusal(rt: &impl Host, folder: &str, length: u8, rules: Rules) -> Option<HostFault> {
-    RefereeHost::open(rt, folder, 0, MATCH, length, rules).err()
+fn refusal(host: &HostRuntime, folder: &str, length: u8, rules: Rules) -> Option<HostFault> {
+    RefereeHost::open(host, folder, 0, MATCH, length, rules).err()
 }
 
-fn address<R: Host>(rt: &R, host: &RefereeHost<'_, R>) -> SocketAddr {
+fn address(rt: &impl Abort, host: &RefereeHost<'_, HostRuntime>) -> SocketAddr {
     host.address().expect(rt, "an address")
 }
 
-fn turn<R: Host>(rt: &R, host: &mut RefereeHost<'_, R>) {
+fn turn(rt: &impl Abort, host: &mut RefereeHost<'_, HostRuntime>) {
     host.turn().expect(rt, "a turn");
 }
 
 /// Asks once for all entries, as watcher 3, and waits until the host tells some: they may come as
 /// an answer or unasked.
-fn told<R: Host>(rt: &R, host: &mut RefereeHost<'_, R>) -> Packet {
+fn told(rt: &impl Host, host: &mut RefereeHost<'_, HostRuntime>) -> Packet {
     let watcher = client(rt);
     send(rt, &watcher, &WANT, address(rt, host));
     for _ in 0..MOST_TURNS {
@@ -101,7 +101,7 @@ fn is_first(packet: &Packet) -> bool {
 /// Whether a folder has this file of the referee.
 fn has_file(rt: &impl Host, folder: &str, slot: u8) -> bool {
     let path = format!(in rt.alloc(); "{folder}/party-0.{slot}");
-    fs::metadata(rt, path.expect(rt, "memory").as_str()).is_ok()
+    fs::metadata(rt.host(), path.expect(rt, "memory").as_str()).is_ok()
 }
 
 /// Whether a host was refused since the folder has another match.
@@ -127,14 +127,14 @@ fn hosts_answer(rt: HostRuntime) {
     remove_folder(&rt, folder);
 }
 
-fn check_answers<R: Host>(rt: &R, folder: &str) {
+fn check_answers(rt: &impl Host, folder: &str) {
     let first = first_answer(rt, folder);
     assert!(rt; is_first(&first));
     assert!(rt; later_answer(rt, folder) == first);
 }
 
 /// What a first host tells, which then has served.
-fn first_answer<R: Host>(rt: &R, folder: &str) -> Packet {
+fn first_answer(rt: &impl Host, folder: &str) -> Packet {
     let mut host = open(rt, folder, 5);
     let first = told(rt, &mut host);
     check_in_use(rt, folder);
@@ -145,13 +145,13 @@ fn first_answer<R: Host>(rt: &R, folder: &str) -> Packet {
 /// The opening is saved, and no other host begins.
 fn check_in_use(rt: &impl Host, folder: &str) {
     assert!(rt; has_file(rt, folder, 1) && !has_file(rt, folder, 0));
-    assert!(rt; is_in_use(refusal(rt, folder, 5, Rules::One)));
+    assert!(rt; is_in_use(refusal(rt.host(), folder, 5, Rules::One)));
 }
 
 /// What a later host of this match tells. None of another match begins.
-fn later_answer<R: Host>(rt: &R, folder: &str) -> Packet {
-    assert!(rt; is_wrong_match(refusal(rt, folder, 3, Rules::One)));
-    assert!(rt; is_wrong_match(refusal(rt, folder, 5, Rules::Two)));
+fn later_answer(rt: &impl Host, folder: &str) -> Packet {
+    assert!(rt; is_wrong_match(refusal(rt.host(), folder, 3, Rules::One)));
+    assert!(rt; is_wrong_match(refusal(rt.host(), folder, 5, Rules::Two)));
     told(rt, &mut open(rt, folder, 5))
 }
 
@@ -182,7 +182,12 @@ fn take(socket: &UdpSocket, seat: &mut Seat) {
 
 /// One round of a seat: it sends what its core gives, the host has a turn, the core takes what
 /// came, and the player gives the match up as soon as he may, or accepts that the other one does.
-fn play<R: Host>(rt: &R, socket: &UdpSocket, seat: &mut Seat, host: &mut RefereeHost<'_, R>) {
+fn play(
+    rt: &impl Abort,
+    socket: &UdpSocket,
+    seat: &mut Seat,
+    host: &mut RefereeHost<'_, HostRuntime>,
+) {
     tick(rt, socket, seat, address(rt, host));
     turn(rt, host);
     take(socket, seat);
@@ -209,21 +214,21 @@ fn hosts_referee(rt: HostRuntime) {
     remove_folder(&rt, folder);
 }
 
-fn check_refereed<R: Host>(rt: &R, folder: &str) {
+fn check_refereed(rt: &impl Host, folder: &str) {
     let mut host = open(rt, folder, 1);
     let (mut x, mut o) = (fresh(rt, Player::X), fresh(rt, Player::O));
     play_match(rt, &mut host, &mut x, &mut o);
 }
 
-fn play_match<R: Host>(rt: &R, host: &mut RefereeHost<'_, R>, x: &mut Seat, o: &mut Seat) {
+fn play_match(rt: &impl Host, host: &mut RefereeHost<'_, HostRuntime>, x: &mut Seat, o: &mut Seat) {
     let (x_socket, o_socket) = (client(rt), client(rt));
     play_rounds(rt, host, (&x_socket, x), (&o_socket, o));
 }
 
 /// Rounds of both seats, until both hold the end of the match.
-fn play_rounds<R: Host>(
-    rt: &R,
-    host: &mut RefereeHost<'_, R>,
+fn play_rounds(
+    rt: &impl Abort,
+    host: &mut RefereeHost<'_, HostRuntime>,
     (x_socket, x): (&UdpSocket, &mut Seat),
     (o_socket, o): (&UdpSocket, &mut Seat),
 ) {
@@ -289,8 +294,8 @@ fn check_later<L: Link, K: Keeper>(rt: &impl Abort, world: &mut World<L, K>) {
 }
 
 /// Why there is no world over the folder.
-fn no_world(rt: &impl Host, folder: &str, setup: Setup) -> Option<BeginFault> {
-    world_over(rt, folder, setup).err()
+fn no_world(host: &HostRuntime, folder: &str, setup: Setup) -> Option<BeginFault> {
+    world_over(host, folder, setup).err()
 }
 
 /// A world over devices of one's own, and a later one over the same files.
@@ -302,8 +307,15 @@ fn worlds_go_on(rt: HostRuntime) {
 }
 
 fn check_worlds(rt: &impl Host, folder: &str) {
-    check_begun(rt, &mut world_over(rt, folder, SETUP).expect(rt, "a world"));
-    check_later(rt, &mut world_over(rt, folder, SETUP).expect(rt, "a world"));
-    let refused = no_world(rt, folder, Setup { id: 2, ..SETUP });
+    let host = rt.host();
+    check_begun(
+        rt,
+        &mut world_over(host, folder, SETUP).expect(rt, "a world"),
+    );
+    check_later(
+        rt,
+        &mut world_over(host, folder, SETUP).expect(rt, "a world"),
+    );
+    let refused = no_world(host, folder, Setup { id: 2, ..SETUP });
     assert!(rt; matches!(refused, Some(BeginFault::Restart(0, _))));
 }

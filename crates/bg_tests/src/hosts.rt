@@ -1,36 +1,29 @@
 //! What the tests ask of the system.
-use std::env::Env;
-use std::fs::File;
-use std::net::Net;
 use std::process::Abort;
-use std::random::RandomSource;
-use std::rt::Files;
 use std::{fs, str};
 
-/// A system that knows the number of its process.
-pub(crate) trait Numbered {
-    fn number(&self) -> u32;
+/// A test on the system that it runs on.
+pub(crate) trait Hosted {
+    /// Returns the system.
+    fn host(&self) -> &HostRuntime;
 }
 
-impl Numbered for HostRuntime {
-    fn number(&self) -> u32 {
-        std::process::id(self.process())
+impl Hosted for HostRuntime {
+    fn host(&self) -> &HostRuntime {
+        self
     }
 }
 
-/// All that the tests ask of the system, as one bound.
-pub(crate) trait Host: Numbered
-    + Net
-    + Files<File = File>
-    + Env
-    + RandomSource
-    + AllocGlobal
-    + Abort {}
+/// What tests need: the system itself, memory, and a way to end. A bound for each of the system's
+/// devices would take the check some seconds in each function.
+pub(crate) trait Host: Hosted + AllocGlobal + Abort {}
 
-impl<R> Host for R
-where
-    R: Numbered + Net + Files<File = File> + Env + RandomSource + AllocGlobal + Abort,
-{}
+impl<R: Hosted + AllocGlobal + Abort> Host for R {}
+
+/// The number of this process.
+fn number(host: &HostRuntime) -> u32 {
+    std::process::id(host.process())
+}
 
 /// A text that lasts as long as its process. What has nothing to drop is cheap to prove.
 pub(crate) fn lasting(rt: &impl Abort, text: String) -> &'static str {
@@ -39,19 +32,19 @@ pub(crate) fn lasting(rt: &impl Abort, text: String) -> &'static str {
 
 /// The path of a folder of this name, among those of a process.
 fn own_path(rt: &impl Host, process: u32, name: &str) -> &'static str {
-    let temp = std::env::temp_dir(rt).expect(rt, "a folder for what does not last");
+    let temp = std::env::temp_dir(rt.host()).expect(rt, "a folder for what does not last");
     let path = format!(in rt.alloc(); "{}/bg_tests-{process}-{name}", temp.as_str());
     lasting(rt, path.expect(rt, "memory for a path"))
 }
 
 /// A new folder among those that do not last.
 pub(crate) fn new_folder(rt: &impl Host, name: &str) -> &'static str {
-    let folder = own_path(rt, rt.number(), name);
-    fs::create_dir(rt, folder).expect(rt, "a new folder");
+    let folder = own_path(rt, number(rt.host()), name);
+    fs::create_dir(rt.host(), folder).expect(rt, "a new folder");
     folder
 }
 
 /// Removes a folder with all that it has.
 pub(crate) fn remove_folder(rt: &impl Host, folder: &str) {
-    fs::remove_dir_all(rt, folder).expect(rt, "the folder is removed");
+    fs::remove_dir_all(rt.host(), folder).expect(rt, "the folder is removed");
 }

@@ -14,38 +14,46 @@ use rand_chacha::ChaCha20Rng;
 use rand_core::SeedableRng;
 use rand_core::utils::NextWord;
 use std::collections::VecDeque;
+use std::process::Abort;
 
 pub(crate) const MATCH: u64 = 1;
 
 /// More rounds than a match takes.
 const MOST_ROUNDS: u32 = 20_000;
 
-/// The parties of a match while they run, and a network between them that loses datagrams.
+/// The parties of a match while they run, each in a box, as one call drops what lies there; and a
+/// network between them that loses datagrams.
 #[derive(Drop)]
 pub(crate) struct Table<'a, R> {
     rt: &'a R,
+    host: &'a HostRuntime,
     folder: &'a str,
     terms: Terms,
     chances: ChaCha20Rng,
     /// How many processes of the referee have begun.
     begun: u8,
-    referee: Option<LoneReferee<'a, R>>,
-    x: Option<LoneSeat<'a, R>>,
-    o: Option<LoneSeat<'a, R>>,
-    watcher: Option<LoneWatcher>,
+    referee: Option<Box<LoneReferee<'a, HostRuntime>>>,
+    x: Option<Box<LoneSeat<'a, HostRuntime>>>,
+    o: Option<Box<LoneSeat<'a, HostRuntime>>>,
+    watcher: Option<Box<LoneWatcher>>,
 }
 
 /// What the automatic player of a seat does now.
-fn action_of<R: Host>(rt: &R, seat: &LoneSeat<'_, R>, player: Player) -> Option<Action> {
+fn action_of(rt: &impl Host, seat: &LoneSeat<'_, HostRuntime>, player: Player) -> Option<Action> {
     auto_action(rt.alloc(), seat.held()?, player).expect(rt, "memory")
 }
 
 /// A turn of a seat that plays by itself.
-fn play_seat<R: Host>(rt: &R, seat: &mut LoneSeat<'_, R>, player: Player) {
+fn play_seat(rt: &impl Host, seat: &mut LoneSeat<'_, HostRuntime>, player: Player) {
     if let Some(action) = action_of(rt, seat, player) {
         seat.choose(action);
     }
     seat.turn().expect(rt, "a turn");
+}
+
+/// A value in a box.
+fn boxed<T: Drop>(rt: &(impl AllocGlobal + Abort), value: T) -> Box<T> {
+    Box::new(rt.alloc(), value).expect(rt, "memory")
 }
 
 /// The transcript is good.
@@ -59,6 +67,7 @@ impl<'a, R: Host> Table<'a, R> {
     pub(crate) fn new(rt: &'a R, folder: &'a str, rules: Rules) -> Table<'a, R> {
         Table {
             rt,
+            host: rt.host(),
             folder,
             terms: Terms { length: 1, rules },
             chances: ChaCha20Rng::from_seed([0; 32]),
@@ -73,8 +82,8 @@ impl<'a, R: Host> Table<'a, R> {
     fn begin_referee(&mut self) {
         self.begun = self.begun.wrapping_add(1);
         let words = ChaCha20Rng::from_seed([self.begun; 32]);
-        let referee = LoneReferee::begin(self.rt, self.folder, MATCH, self.terms, words);
-        self.referee = Some(referee.expect(self.rt, "a referee"));
+        let referee = LoneReferee::begin(self.host, self.folder, MATCH, self.terms, words);
+        self.referee = Some(boxed(self.rt, referee.expect(self.rt, "a referee")));
     }
 
     /// A turn of the referee, which begins first where it does not run.
@@ -88,7 +97,7 @@ impl<'a, R: Host> Table<'a, R> {
         self.carry(REFEREE);
     }
 
-    fn seat(&mut self, player: Player) -> &mut Option<LoneSeat<'a, R>> {
+    fn seat(&mut self, player: Player) -> &mut Option<Box<LoneSeat<'a, HostRuntime>>> {
         match player {
             Player::X => &mut self.x,
             Player::O => &mut self.o,
@@ -96,8 +105,8 @@ impl<'a, R: Host> Table<'a, R> {
     }
 
     fn begin_seat(&mut self, player: Player) {
-        let seat = LoneSeat::begin(self.rt, self.folder, player, MATCH, self.terms);
-        let seat = seat.expect(self.rt, "a seat");
+        let seat = LoneSeat::begin(self.host, self.folder, player, MATCH, self.terms);
+        let seat = boxed(self.rt, seat.expect(self.rt, "a seat"));
         *self.seat(player) = Some(seat);
     }
 
@@ -115,7 +124,7 @@ impl<'a, R: Host> Table<'a, R> {
 
     fn begin_watcher(&mut self) {
         let watcher = LoneWatcher::begin(self.rt.alloc(), FIRST_WATCHER, MATCH, self.terms);
-        self.watcher = Some(watcher.expect(self.rt, "a watcher"));
+        self.watcher = Some(boxed(self.rt, watcher.expect(self.rt, "a watcher")));
     }
 
     /// A turn of the watcher, who begins first where he does not run.

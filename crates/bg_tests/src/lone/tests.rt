@@ -43,37 +43,37 @@ fn processes_begin_again_by_the_second_rules(rt: HostRuntime) {
 }
 
 /// A referee's process of a match, by dice of its own, or why there is none.
-fn try_begin<'a, R: Host>(
-    rt: &'a R,
+fn try_begin<'a>(
+    host: &'a HostRuntime,
     folder: &str,
     id: u64,
     seed: u8,
-) -> Result<LoneReferee<'a, R>, ProcessFault> {
+) -> Result<LoneReferee<'a, HostRuntime>, ProcessFault> {
     let words = ChaCha20Rng::from_seed([seed; 32]);
-    LoneReferee::begin(rt, folder, id, TERMS, words)
+    LoneReferee::begin(host, folder, id, TERMS, words)
 }
 
-fn begin<'a, R: Host>(rt: &'a R, folder: &str, seed: u8) -> LoneReferee<'a, R> {
-    try_begin(rt, folder, MATCH, seed).expect(rt, "a referee")
+fn begin<'a>(rt: &'a impl Host, folder: &str, seed: u8) -> LoneReferee<'a, HostRuntime> {
+    try_begin(rt.host(), folder, MATCH, seed).expect(rt, "a referee")
 }
 
 /// Why there is no referee's process.
-fn refusal(rt: &impl Host, folder: &str, id: u64, seed: u8) -> Option<ProcessFault> {
-    try_begin(rt, folder, id, seed).err()
+fn refusal(host: &HostRuntime, folder: &str, id: u64, seed: u8) -> Option<ProcessFault> {
+    try_begin(host, folder, id, seed).err()
 }
 
 /// So many entries are held.
-fn check_holds<R: Host>(rt: &R, referee: &LoneReferee<'_, R>, count: Number) {
+fn check_holds(rt: &impl Abort, referee: &LoneReferee<'_, HostRuntime>, count: Number) {
     let record = referee.held().expect(rt, "the referee is up");
     assert!(rt; record.len() == count);
 }
 
-fn turn<R: Host>(rt: &R, referee: &mut LoneReferee<'_, R>) {
+fn turn(rt: &impl Abort, referee: &mut LoneReferee<'_, HostRuntime>) {
     referee.turn().expect(rt, "a turn");
 }
 
 /// So many turns.
-fn take_turns<R: Host>(rt: &R, referee: &mut LoneReferee<'_, R>) {
+fn take_turns(rt: &impl Abort, referee: &mut LoneReferee<'_, HostRuntime>) {
     for _ in 0..TURNS {
         turn(rt, referee);
     }
@@ -89,11 +89,11 @@ fn processes_are_refused(rt: HostRuntime) {
     remove_folder(&rt, folder);
 }
 
-fn check_second<R: Host>(rt: &R, folder: &str) {
+fn check_second(rt: &impl Host, folder: &str) {
     let mut referee = begin(rt, folder, 1);
     take_turns(rt, &mut referee);
     check_holds(rt, &referee, 1);
-    assert!(rt; is_in_use(refusal(rt, folder, MATCH, 2)));
+    assert!(rt; is_in_use(refusal(rt.host(), folder, MATCH, 2)));
 }
 
 fn is_in_use(refusal: Option<ProcessFault>) -> bool {
@@ -101,7 +101,7 @@ fn is_in_use(refusal: Option<ProcessFault>) -> bool {
 }
 
 fn check_other(rt: &impl Host, folder: &str) {
-    let other = refusal(rt, folder, MATCH + 1, 3);
+    let other = refusal(rt.host(), folder, MATCH + 1, 3);
     assert!(rt;
         matches!(
             other,
@@ -119,31 +119,36 @@ const WANT: Packet = Packet::Want {
 };
 
 /// A turn of the referee after the watcher has asked.
-fn asked_turn<R: Host>(rt: &R, referee: &mut LoneReferee<'_, R>) {
+fn asked_turn(rt: &impl Abort, referee: &mut LoneReferee<'_, HostRuntime>) {
     referee.link.receive(encode(&WANT).as_slice());
     turn(rt, referee);
 }
 
 /// So many turns after the watcher has asked.
-fn take_asked_turns<R: Host>(rt: &R, referee: &mut LoneReferee<'_, R>) {
+fn take_asked_turns(rt: &impl Abort, referee: &mut LoneReferee<'_, HostRuntime>) {
     for _ in 0..TURNS {
         asked_turn(rt, referee);
     }
 }
 
 /// A turn after the watcher has asked, in which nothing is saved or told.
-fn check_idle_turn<R: Host>(rt: &R, referee: &mut LoneReferee<'_, R>) {
+fn check_idle_turn(rt: &impl Abort, referee: &mut LoneReferee<'_, HostRuntime>) {
     asked_turn(rt, referee);
     check_holds(rt, referee, 0);
     assert!(rt; referee.link.outgoing().is_empty());
 }
 
 fn rename(rt: &impl Host, from: &str, to: &str) {
-    fs::rename(rt, from, to).expect(rt, "another name");
+    fs::rename(rt.host(), from, to).expect(rt, "another name");
 }
 
 /// The folder is away for a while.
-fn check_away<R: Host>(rt: &R, referee: &mut LoneReferee<'_, R>, folder: &str, away: &str) {
+fn check_away(
+    rt: &impl Host,
+    referee: &mut LoneReferee<'_, HostRuntime>,
+    folder: &str,
+    away: &str,
+) {
     rename(rt, folder, away);
     for _ in 0..TURNS {
         check_idle_turn(rt, referee);
