@@ -2,251 +2,182 @@
 mod requests;
 
 use crate::command_lines::check_refused;
+use crate::lasting::{lasting, lasting_text};
 use bg_options::{Request, RequestFault, command_line};
 use bg_system::NameFault;
 use clap::ArgMatches;
 use clap::error::ErrorKind;
 use requests::is_asked;
-use std::test::Fail;
+use std::alloc::Global;
+use std::process::Abort;
 
-/// The words of commands, without the program's name.
-const WORDS: [&[&str]; 36] = [
-    &["judge"],
-    &["check", "--quiet", "a", "-", "b"],
-    &[
-        "check",
-        "--files-from",
-        "-",
-        "--recursive",
-        "--format",
-        "tsv",
-    ],
-    &["import"],
-    &["import", "--rules", "2"],
-    &["export"],
-    &["show", "a"],
-    &["show", "--transcript", "a", "b"],
-    &["page", "--title", "A & B", "--numbering", "X"],
-    &["page"],
-    &["picture", "--numbering", "X"],
-    &[
-        "script",
-        "--length",
-        "99",
-        "--rules",
-        "2",
-        "--watchers",
-        "253",
-    ],
-    &[
-        "sim",
-        "--seed",
-        "18446744073709551615",
-        "--length",
-        "3",
-        "--watchers",
-        "2",
-        "--steps",
-        "9",
-    ],
-    &[
-        "loop", "--seed", "0", "--length", "1", "--rules", "2", "--rounds", "1000000", "--dir", "d",
-    ],
-    &["new", "--length", "5", "--port", "65280", "--dir", "d"],
-    &["referee", "--dir", "d"],
-    &["play", "--player", "X", "--match", "m", "--dir", "d"],
-    &[
-        "act",
-        "--player",
-        "O",
-        "--match",
-        "m",
-        "--dir",
-        "d",
-        "--seconds",
-        "7",
-        "--entry",
-        "3",
-        "move",
-        "8-5",
-    ],
-    &["auto", "--player", "O", "--match", "m", "--dir", "d"],
-    &[
-        "watch",
-        "--match",
-        "m",
-        "--board",
-        "b",
-        "--transcript",
-        "t",
-        "--page",
-        "p",
-        "--go-on",
-    ],
-    &[
-        "recover", "--match", "m", "--keys", "k", "--x", "x", "--o", "o", "--dir", "d", "t", "-",
-    ],
-    &["keys", "--dir", "d"],
-    &["list", "a", "b"],
-    &["list", "--format", "json", "t"],
-    &["referee", "--quiet", "--dir", "d"],
-    &["watch", "--match", "m", "--quiet", "--plain"],
-    &[
-        "play",
-        "--player",
-        "O",
-        "--match",
-        "m",
-        "--dir",
-        "d",
-        "--columns",
-        "60",
-        "--forced",
-    ],
-    &[
-        "new",
-        "--name-o",
-        "Otto",
-        "--length",
-        "5",
-        "--port",
-        "1024",
-        "--dir",
-        "d",
-        "--name-x",
-        "Anna \u{d6}",
-    ],
-    &["page", "--match", "m"],
-    &["import", "--out", "d", "--force", "a", "b"],
-    &["import", "--headers", "h"],
-    &[
-        "export", "--x", "Anna", "--o", "Otto", "--date", "1", "--event", "2", "--place", "3",
-        "--out", "d", "a",
-    ],
-    &[
-        "recover", "--match", "m", "--x", " x", "--o", "o", "--dir", "d",
-    ],
-    &["page", "--name-o", "Otto", "--name-x", "Anna"],
-    &["board", "--once", "--out", "p", "a", "b"],
-    &["dice", "--secret", "s"],
+/// The words of commands, without the program's name, and with a bar between two of them.
+const WORDS: [&str; 36] = [
+    "judge",
+    "check|--quiet|a|-|b",
+    "check|--files-from|-|--recursive|--format|tsv",
+    "import",
+    "import|--rules|2",
+    "export",
+    "show|a",
+    "show|--transcript|a|b",
+    "page|--title|A & B|--numbering|X",
+    "page",
+    "picture|--numbering|X",
+    "script|--length|99|--rules|2|--watchers|253",
+    "sim|--seed|18446744073709551615|--length|3|--watchers|2|--steps|9",
+    "loop|--seed|0|--length|1|--rules|2|--rounds|1000000|--dir|d",
+    "new|--length|5|--port|65280|--dir|d",
+    "referee|--dir|d",
+    "play|--player|X|--match|m|--dir|d",
+    "act|--player|O|--match|m|--dir|d|--seconds|7|--entry|3|move|8-5",
+    "auto|--player|O|--match|m|--dir|d",
+    "watch|--match|m|--board|b|--transcript|t|--page|p|--go-on",
+    "recover|--match|m|--keys|k|--x|x|--o|o|--dir|d|t|-",
+    "keys|--dir|d",
+    "list|a|b",
+    "list|--format|json|t",
+    "referee|--quiet|--dir|d",
+    "watch|--match|m|--quiet|--plain",
+    "play|--player|O|--match|m|--dir|d|--columns|60|--forced",
+    "new|--name-o|Otto|--length|5|--port|1024|--dir|d|--name-x|Anna \u{d6}",
+    "page|--match|m",
+    "import|--out|d|--force|a|b",
+    "import|--headers|h",
+    "export|--x|Anna|--o|Otto|--date|1|--event|2|--place|3|--out|d|a",
+    "recover|--match|m|--x| x|--o|o|--dir|d",
+    "page|--name-o|Otto|--name-x|Anna",
+    "board|--once|--out|p|a|b",
+    "dice|--secret|s",
 ];
 
-/// What the words of a command line, with the program's name, were parsed to. It is large, so it lies
-/// in a box.
-fn matches_of<'a>(
-    rt: &impl AllocGlobal,
-    words: &'a [&'a str],
-) -> Result<Box<ArgMatches<'a>>, Fail> {
-    let line = command_line(rt.alloc(), words.get(1).copied())?;
-    let matches = line.try_get_matches_from(words)?;
-    Ok(Box::new(rt.alloc(), matches)?)
+/// What the words of a command line, with the program's name, were parsed to; nothing where they are
+/// no such words. It is large, so it lies in a box.
+fn matches_of<'a>(alloc: Global, words: &'a [&'a str]) -> Option<Box<ArgMatches<'a>>> {
+    let line = command_line(alloc, words.get(1).copied()).ok()?;
+    let matches = line.try_get_matches_from(words).ok()?;
+    Box::new(alloc, matches).ok()
 }
 
 /// Why such words are refused, if they are.
-fn fault_of(rt: &impl AllocGlobal, words: &[&str]) -> Result<Option<RequestFault>, Fail> {
-    let matches = matches_of(rt, words)?;
-    Ok(Request::read(&matches).err())
+fn fault_of(alloc: Global, words: &[&str]) -> Option<RequestFault> {
+    let matches = matches_of(alloc, words)?;
+    Request::read(&matches).err()
+}
+
+/// Whether such words, with a bar between two of them, are refused for this.
+fn is_refused(rt: &(impl AllocGlobal + Abort), words: &str, fault: RequestFault) -> bool {
+    fault_of(rt.alloc(), line_of(rt, words)) == Some(fault)
+}
+
+/// The words of a command line, with the program's name.
+fn line_of<'a>(rt: &(impl AllocGlobal + Abort), words: &'a str) -> &'a [&'a str] {
+    let line = lasting(rt, Vec::new(rt.alloc()));
+    line.push("bg_relay").expect(rt, "memory");
+    for word in words.split('|') {
+        line.push(word).expect(rt, "memory");
+    }
+    line.as_slice()
 }
 
 /// Whether the words of this row ask for what they should.
-fn asks(rt: &impl AllocGlobal, row: usize, words: &[&str]) -> Result<bool, Fail> {
-    let mut line = Vec::new(rt.alloc());
-    line.push("bg_relay")?;
-    line.extend_from_slice(words)?;
-    let matches = matches_of(rt, &line)?;
-    Ok(Request::read(&matches).is_ok_and(|request| is_asked(row, &request)))
+fn asks(alloc: Global, row: usize, words: &[&str]) -> bool {
+    match matches_of(alloc, words) {
+        Some(matches) => Request::read(&matches).is_ok_and(|request| is_asked(row, &request)),
+        None => false,
+    }
 }
 
 #[test]
-fn words_of_each_command(rt: HostRuntime) -> Result<(), Fail> {
+fn words_of_each_command(rt: HostRuntime) {
     for (row, words) in WORDS.iter().enumerate() {
-        assert!(rt; asks(&rt, row, words)?, "row {row}");
+        assert!(rt; asks(rt.alloc(), row, line_of(&rt, words)), "{words}");
     }
-    Ok(())
 }
 
 /// A file that is named to a command which reads the standard input is said where it belongs.
 #[test]
-fn misplaced_files(rt: HostRuntime) -> Result<(), Fail> {
-    for name in ["judge", "import", "export", "page", "picture"] {
-        let fault = fault_of(&rt, &["bg_relay", name, "file"])?;
-        assert!(rt; fault == Some(RequestFault::MisplacedFile(name)), "{name}");
+fn misplaced_files(rt: HostRuntime) {
+    for (name, words) in [
+        ("judge", "judge|file"),
+        ("import", "import|file"),
+        ("export", "export|file"),
+        ("page", "page|file"),
+        ("picture", "picture|file"),
+    ] {
+        assert!(rt;
+            is_refused(&rt, words, RequestFault::MisplacedFile(name)),
+            "{words}"
+        );
     }
-    Ok(())
 }
 
 /// Options for files and a folder that don't fit are said.
 #[test]
-fn batches_that_are_refused(rt: HostRuntime) -> Result<(), Fail> {
-    let no_files = Some(RequestFault::NoFiles);
-    let headers = Some(RequestFault::HeadersOfMany);
-    for (words, wanted) in [
-        (&["bg_relay", "import", "--out", "d"] as &[&str], no_files),
-        (&["bg_relay", "export", "--out", "d"], no_files),
-        (
-            &["bg_relay", "import", "--out", "d", "--headers", "h", "a"],
-            headers,
-        ),
+fn batches_that_are_refused(rt: HostRuntime) {
+    for (words, fault) in [
+        ("import|--out|d", RequestFault::NoFiles),
+        ("export|--out|d", RequestFault::NoFiles),
+        ("import|--out|d|--headers|h|a", RequestFault::HeadersOfMany),
     ] {
-        assert!(rt; fault_of(&rt, words)? == wanted, "{wanted:?}");
+        assert!(rt; is_refused(&rt, words, fault), "{words}");
     }
-    Ok(())
 }
 
 /// A text above a match is as clean as a name.
 #[test]
-fn headers_that_are_refused(rt: HostRuntime) -> Result<(), Fail> {
-    for (option, flag) in [
-        ("x", "--x="),
-        ("o", "--o="),
-        ("date", "--date="),
-        ("event", "--event="),
-        ("place", "--place="),
+fn headers_that_are_refused(rt: HostRuntime) {
+    for (option, words) in [
+        ("x", "export|--x="),
+        ("o", "export|--o="),
+        ("date", "export|--date="),
+        ("event", "export|--event="),
+        ("place", "export|--place="),
     ] {
-        let fault = fault_of(&rt, &["bg_relay", "export", flag])?;
-        let wanted = Some(RequestFault::Name(option, NameFault::Length));
-        assert!(rt; fault == wanted, "{option}");
+        let fault = RequestFault::Name(option, NameFault::Length);
+        assert!(rt; is_refused(&rt, words, fault), "{words}");
     }
-    Ok(())
+}
+
+/// The words of a fault.
+fn said_of<'a>(rt: &(impl AllocGlobal + Abort), fault: RequestFault) -> &'a str {
+    let said = format!(in rt.alloc(); "{fault}");
+    lasting_text(said.expect(rt, "memory"))
 }
 
 /// A name that is none is said, with its option.
 #[test]
-fn names_that_are_refused(rt: HostRuntime) -> Result<(), Fail> {
-    for (option, flag, why, said) in [
+fn names_that_are_refused(rt: HostRuntime) {
+    for (option, words, why, wanted) in [
         (
             "name-x",
-            "--name-x=",
+            "new|--length|1|--port|4000|--dir|d|--name-x=",
             NameFault::Length,
             "--name-x is refused: a name has 1 to 64 bytes of UTF-8",
         ),
         (
             "name-o",
-            "--name-o= A",
+            "new|--length|1|--port|4000|--dir|d|--name-o= A",
             NameFault::Blank,
             "--name-o is refused: a name neither begins nor ends with a blank",
         ),
         (
             "name-x",
-            "--name-x=A\u{202e}",
+            "new|--length|1|--port|4000|--dir|d|--name-x=A\u{202e}",
             NameFault::Character,
             "--name-x is refused: a name has no control characters, and none that change the direction of a text",
         ),
     ] {
-        let words = [
-            "bg_relay", "new", "--length", "1", "--port", "4000", "--dir", "d", flag,
-        ];
-        let fault = fault_of(&rt, &words)?;
-        assert!(rt; fault == Some(RequestFault::Name(option, why)), "{flag}");
-        let shown = format!(in rt.alloc(); "{}", RequestFault::Name(option, why))?;
-        assert!(rt; shown.as_str() == said, "{shown}");
+        let fault = RequestFault::Name(option, why);
+        assert!(rt; is_refused(&rt, words, fault), "{words}");
+        let said = said_of(&rt, fault);
+        assert!(rt; said == wanted, "{said}");
     }
-    Ok(())
 }
 
 /// A list of files or one of them has to be named.
 #[test]
-fn nothing_to_check(rt: HostRuntime) -> Result<(), Fail> {
+fn nothing_to_check(rt: HostRuntime) {
     let missing = ErrorKind::MissingRequiredArgument;
-    check_refused(&rt, &["bg_relay", "check"], missing, true)
+    check_refused(&rt, "check", &["bg_relay", "check"], missing, true);
 }

@@ -2,7 +2,7 @@
 //! broken into.
 use bg_board::Player;
 use bg_console::{broken, with_bold_offers, with_coloured_checkers};
-use std::test::Fail;
+use std::process::Abort;
 
 /// What a player sees where checkers stand one above another, where they are numbers, and where
 /// points are a list.
@@ -47,23 +47,29 @@ your turn, O:\x1b[1m roll, double, resign normal,\x1b[0m
 ";
 
 /// A text without the sequences of looks, each of which ends with an `m`.
-fn plain(rt: &HostRuntime, text: &[u8]) -> Result<Vec<u8>, Fail> {
+fn plain<'a>(rt: &(impl AllocGlobal + Abort), text: &[u8]) -> &'a [u8] {
     let mut out = Vec::new(rt.alloc());
     let mut is_sequence = false;
     for byte in text {
         if *byte == b'\x1b' {
             is_sequence = true;
         } else if !is_sequence {
-            out.push(*byte)?;
+            out.push(*byte).expect(rt, "memory");
         } else if *byte == b'm' {
             is_sequence = false;
         }
     }
-    Ok(out)
+    out.leak()
+}
+
+/// A text in which the checkers of a player are bold.
+fn coloured<'a>(rt: &(impl AllocGlobal + Abort), text: &str, bold: Player) -> &'a [u8] {
+    let coloured = with_coloured_checkers(rt.alloc(), text.as_bytes(), bold);
+    coloured.expect(rt, "memory").leak()
 }
 
 #[test]
-fn checkers_have_the_colours_of_their_players(rt: HostRuntime) -> Result<(), Fail> {
+fn checkers_have_the_colours_of_their_players(rt: HostRuntime) {
     for (text, bold, wanted) in [
         (STACKS, Player::X, COLOURED_STACKS),
         (ROWS, Player::O, COLOURED_ROWS),
@@ -75,18 +81,20 @@ fn checkers_have_the_colours_of_their_players(rt: HostRuntime) -> Result<(), Fai
         (OFFERS, Player::O, OFFERS),
         ("", Player::O, ""),
     ] {
-        let coloured = with_coloured_checkers(rt.alloc(), text.as_bytes(), bold)?;
-        assert!(rt; coloured.as_slice() == wanted.as_bytes(), "{text}");
-        assert!(rt;
-            plain(&rt, &coloured)?.as_slice() == text.as_bytes(),
-            "{text}"
-        );
+        let coloured = coloured(&rt, text, bold);
+        assert!(rt; coloured == wanted.as_bytes(), "{text}");
+        assert!(rt; plain(&rt, coloured) == text.as_bytes(), "{text}");
     }
-    Ok(())
+}
+
+/// A text in which what is offered is bold.
+fn offered<'a>(rt: &(impl AllocGlobal + Abort), text: &str) -> &'a [u8] {
+    let bold = with_bold_offers(rt.alloc(), text.as_bytes());
+    bold.expect(rt, "memory").leak()
 }
 
 #[test]
-fn offers_are_bold(rt: HostRuntime) -> Result<(), Fail> {
+fn offers_are_bold(rt: HostRuntime) {
     for (text, wanted) in [
         (OFFERS, BOLD_OFFERS),
         ("it is O's turn\n", "it is O's turn\n"),
@@ -94,11 +102,10 @@ fn offers_are_bold(rt: HostRuntime) -> Result<(), Fail> {
         (STACKS, STACKS),
         ("", ""),
     ] {
-        let bold = with_bold_offers(rt.alloc(), text.as_bytes())?;
-        assert!(rt; bold.as_slice() == wanted.as_bytes(), "{text}");
-        assert!(rt; plain(&rt, &bold)?.as_slice() == text.as_bytes(), "{text}");
+        let bold = offered(&rt, text);
+        assert!(rt; bold == wanted.as_bytes(), "{text}");
+        assert!(rt; plain(&rt, bold) == text.as_bytes(), "{text}");
     }
-    Ok(())
 }
 
 /// The offers to a player who is to move; and what is no offer.
@@ -109,8 +116,14 @@ const TO_ROLL: &str = "your turn, O: roll, double, resign normal, resign gammon,
 
 const NO_OFFER: &str = "X is away, resign normal, and wait";
 
+/// A text in lines of so many columns.
+fn lines_of<'a>(rt: &(impl AllocGlobal + Abort), text: &str, columns: usize) -> &'a [u8] {
+    let lines = broken(rt.alloc(), text.as_bytes(), columns);
+    lines.expect(rt, "memory").leak()
+}
+
 #[test]
-fn lines_break_between_words_and_offers(rt: HostRuntime) -> Result<(), Fail> {
+fn lines_break_between_words_and_offers(rt: HostRuntime) {
     for (columns, text, wanted) in [
         (
             60,
@@ -136,11 +149,7 @@ fn lines_break_between_words_and_offers(rt: HostRuntime) -> Result<(), Fail> {
         (4, "abcdef g\n\nh i\n", "abcdef\ng\n\nh i\n"),
         (9, "", "\n"),
     ] {
-        let lines = broken(rt.alloc(), text.as_bytes(), columns)?;
-        assert!(rt;
-            lines.as_slice() == wanted.as_bytes(),
-            "{text} in {columns} columns"
-        );
+        let lines = lines_of(&rt, text, columns);
+        assert!(rt; lines == wanted.as_bytes(), "{text} in {columns} columns");
     }
-    Ok(())
 }

@@ -1,58 +1,68 @@
 //! Command lines: which words are refused, and what help they give.
 use bg_options::{TASKS, command_line};
 use clap::error::ErrorKind;
+use std::alloc::Global;
 use std::process::Abort;
-use std::test::Fail;
 
-/// These words are refused so.
+/// These words are refused so, or answered by help; a row tells them where they are not.
 pub(crate) fn check_refused(
     rt: &(impl AllocGlobal + Abort),
+    row: &str,
     words: &[&str],
     kind: ErrorKind,
     on_stderr: bool,
-) -> Result<(), Fail> {
-    let refused = refusal(rt, words.get(1).copied(), words)?;
-    assert!(rt; refused == (kind, on_stderr), "{words:?}");
-    Ok(())
+) {
+    let refused = refusal(rt.alloc(), words.get(1).copied(), words);
+    assert!(rt; refused == Some((kind, on_stderr)), "{row}");
 }
 
-/// How the command line that help is given of refuses words, and whether that is an error.
-fn refusal(
-    rt: &impl AllocGlobal,
-    asked: Option<&str>,
-    words: &[&str],
-) -> Result<(ErrorKind, bool), Fail> {
-    match command_line(rt.alloc(), asked)?.try_get_matches_from(words) {
-        Ok(_) => Err(Fail::from("accepted")),
-        Err(error) => Ok((error.kind(), error.use_stderr())),
+/// How the command line that help is given of refuses words, and whether that is an error; nothing
+/// where it accepts them.
+fn refusal(alloc: Global, asked: Option<&str>, words: &[&str]) -> Option<(ErrorKind, bool)> {
+    let line = command_line(alloc, asked).ok()?;
+    match line.try_get_matches_from(words) {
+        Ok(_) => None,
+        Err(error) => Some((error.kind(), error.use_stderr())),
     }
 }
 
 /// Each command has its name, by itself and among all of them.
 #[test]
-fn each_name_has_its_command(rt: HostRuntime) -> Result<(), Fail> {
+fn each_name_has_its_command(rt: HostRuntime) {
+    let help = ErrorKind::DisplayHelp;
     for (name, _) in TASKS {
         let words = ["bg_relay", name, "--help"];
-        check_refused(&rt, &words, ErrorKind::DisplayHelp, false)?;
-        let (kind, _) = refusal(&rt, None, &words)?;
-        assert!(rt; kind == ErrorKind::DisplayHelp, "{name}");
+        check_refused(&rt, name, &words, help, false);
+        let among_all = refusal(rt.alloc(), None, &words);
+        assert!(rt; among_all == Some((help, false)), "{name}");
     }
-    Ok(())
 }
 
 #[test]
-fn help_is_shown(rt: HostRuntime) -> Result<(), Fail> {
+fn help_is_shown(rt: HostRuntime) {
     let help = ErrorKind::DisplayHelp;
-    check_refused(&rt, &["bg_relay", "--help"], help, false)?;
-    check_refused(&rt, &["bg_relay", "judge", "--help"], help, false)
+    check_refused(&rt, "--help", &["bg_relay", "--help"], help, false);
+    check_refused(
+        &rt,
+        "judge --help",
+        &["bg_relay", "judge", "--help"],
+        help,
+        false,
+    );
 }
 
 #[test]
-fn other_words_are_refused(rt: HostRuntime) -> Result<(), Fail> {
+fn other_words_are_refused(rt: HostRuntime) {
     let missing = ErrorKind::DisplayHelpOnMissingArgumentOrSubcommand;
-    check_refused(&rt, &["bg_relay"], missing, true)?;
+    check_refused(&rt, "no words", &["bg_relay"], missing, true);
     let unknown_command = ErrorKind::InvalidSubcommand;
-    check_refused(&rt, &["bg_relay", "walk"], unknown_command, true)?;
+    check_refused(&rt, "walk", &["bg_relay", "walk"], unknown_command, true);
     let unknown_option = ErrorKind::UnknownArgument;
-    check_refused(&rt, &["bg_relay", "judge", "--loud"], unknown_option, true)
+    check_refused(
+        &rt,
+        "judge --loud",
+        &["bg_relay", "judge", "--loud"],
+        unknown_option,
+        true,
+    );
 }

@@ -1,5 +1,6 @@
 //! A runtime that keeps what is printed and what is said.
 
+use crate::lasting::lasting_text;
 use std::alloc::{Alloc, AllocError, Global};
 use std::cell::{Cell, RefCell};
 use std::fmt::Display;
@@ -24,13 +25,17 @@ impl<'a> KeptOutput<'a> {
         }
     }
 
-    /// What was said since the last call.
-    pub(crate) fn said(&self) -> String {
+    /// What was said since the last call. It lasts as long as the process.
+    pub(crate) fn said(&self) -> &'a str {
+        lasting_text(self.take_said())
+    }
+
+    fn take_said(&self) -> String {
         self.said.replace(String::new(self.rt.alloc()))
     }
 
     fn say<D: Display + Drop>(&self, value: D, end: &str) -> Result<(), AllocError> {
-        let mut said = self.said();
+        let mut said = self.take_said();
         write!(said, "{value}{end}")?;
         self.said.set(said);
         Ok(())

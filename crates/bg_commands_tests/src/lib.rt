@@ -13,6 +13,8 @@ mod folders;
 #[cfg(test)]
 mod kept_output;
 #[cfg(test)]
+mod lasting;
+#[cfg(test)]
 mod observers;
 #[cfg(test)]
 mod operators;

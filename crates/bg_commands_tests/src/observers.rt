@@ -1,5 +1,5 @@
 //! What one who looks on is told of a match over sockets and files.
-use crate::folders::new_folder;
+use crate::folders::{lasting_folder, path_in};
 use bg_auto::{LoopFault, Observer, party_at};
 use bg_board::Player;
 use bg_match::{Action, Number, Rules};
@@ -7,7 +7,7 @@ use bg_processes::{Failures, play_loop};
 use bg_streams::Writing;
 use bg_world::{Event, Outcome, RestoreCause};
 use std::fs;
-use std::test::Fail;
+use std::process::Abort;
 
 /// Keeps the last event that it is told of, by its party and whether the slots were damaged, and
 /// counts rounds.
@@ -55,10 +55,15 @@ fn heard_of(rt: &HostRuntime, folder: &str, rounds: u32) -> (Result<(), LoopFaul
     (played, heard)
 }
 
+/// Removes a folder with all that it has.
+fn remove(rt: &impl Abort, host: &HostRuntime, folder: &str) {
+    fs::remove_dir_all(host, folder).expect(rt, "the folder is removed");
+}
+
 #[test]
-fn rounds_are_told_from_the_first(rt: HostRuntime) -> Result<(), Fail> {
-    let folder = new_folder(&rt, "told-rounds")?;
-    let (played, heard) = heard_of(&rt, folder.as_str(), 3);
+fn rounds_are_told_from_the_first(rt: HostRuntime) {
+    let folder = lasting_folder(&rt, &rt, "told-rounds");
+    let (played, heard) = heard_of(&rt, folder, 3);
     assert!(rt; played == Ok(()), "{played:?}");
     assert!(rt;
         heard.rounds == 3 && heard.in_order,
@@ -67,24 +72,25 @@ fn rounds_are_told_from_the_first(rt: HostRuntime) -> Result<(), Fail> {
     );
     // A round ends with the tick of the watcher.
     assert!(rt; heard.last == Some((3, false)), "{:?}", heard.last);
-    fs::remove_dir_all(&rt, folder.as_str())?;
-    Ok(())
+    remove(&rt, &rt, folder);
+}
+
+/// A file has bytes that are no saved text.
+fn damage(rt: &impl Abort, host: &HostRuntime, path: &str) {
+    fs::write(host, path, b"rubbish").expect(rt, "a file is written");
 }
 
 #[test]
-fn the_event_that_ends_a_match_is_told(rt: HostRuntime) -> Result<(), Fail> {
-    let folder = new_folder(&rt, "told-end")?;
-    for slot in 0..2 {
-        let path = format!(in rt.alloc(); "{folder}/party-0.{slot}")?;
-        fs::write(&rt, path.as_str(), b"rubbish")?;
-    }
-    let (played, heard) = heard_of(&rt, folder.as_str(), 3);
+fn the_event_that_ends_a_match_is_told(rt: HostRuntime) {
+    let folder = lasting_folder(&rt, &rt, "told-end");
+    damage(&rt, &rt, path_in(&rt, folder, "party-0.0"));
+    damage(&rt, &rt, path_in(&rt, folder, "party-0.1"));
+    let (played, heard) = heard_of(&rt, folder, 3);
     let damaged = LoopFault::Stopped(Outcome::RestoreFault(RestoreCause::Damaged));
     assert!(rt; played == Err(damaged), "it played on");
     assert!(rt; heard.last == Some((0, true)), "{:?}", heard.last);
     assert!(rt; heard.rounds == 0, "{} rounds", heard.rounds);
-    fs::remove_dir_all(&rt, folder.as_str())?;
-    Ok(())
+    remove(&rt, &rt, folder);
 }
 
 #[test]

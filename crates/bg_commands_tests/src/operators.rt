@@ -1,6 +1,7 @@
 //! What the operator of a match over sockets and files is told.
-use crate::folders::new_folder;
+use crate::folders::{lasting_folder, path_in};
 use crate::kept_output::KeptOutput;
+use crate::lasting::lasting;
 use bg_auto::Observer;
 use bg_command_parts::Operator;
 use bg_console::Progress;
@@ -12,19 +13,46 @@ use bg_streams::Writing;
 use bg_wire::Slot;
 use bg_world::{DeviceFault, Event, Keeper, Outcome, RestoreCause};
 use std::fs;
-use std::test::Fail;
+use std::process::Abort;
 
-/// What the operator is told to do where the parties can't go on together.
+/// What is said where the parties can't go on together, and behind the sign of that what to do.
+const AGES: &str = "bg_relay: the folders of the parties are from different points in time: ";
+
 const TOGETHER: &str =
-    "end all processes, and put back copies that were made together, or `recover`";
+    "; end all processes, and put back copies that were made together, or `recover`\n";
 
-/// An operator of a match over this folder, who is told of no round.
-fn operator<'a, 'b>(
-    heard: &'a KeptOutput<'b>,
+/// Whether this sign is all that was said of files of different ages.
+fn is_sign(said: &str, sign: &str) -> bool {
+    match said.strip_prefix(AGES) {
+        Some(rest) => rest.strip_suffix(TOGETHER) == Some(sign),
+        None => false,
+    }
+}
+
+/// The operator of a match, and what is said.
+#[derive(Drop)]
+struct Told<'a> {
+    heard: &'a KeptOutput<'a>,
     failures: &'a Failures,
+    operator: &'a mut Operator<'a, KeptOutput<'a>>,
+}
+
+/// An operator of a match over this folder, who is told of no round. He lasts as long as the
+/// process, and so does what he is told by.
+fn operator_over<'a>(
+    rt: &(impl AllocGlobal + Abort),
+    host: &'a HostRuntime,
     folder: &'a str,
-) -> Operator<'a, KeptOutput<'b>> {
-    Operator::new(heard, failures, folder, Progress::start(heard, false), 10)
+) -> Told<'a> {
+    let heard: &'a KeptOutput<'a> = lasting(rt, KeptOutput::new(host));
+    let failures: &'a Failures = lasting(rt, Failures::new());
+    let progress = Progress::start(heard, false);
+    let operator = lasting(rt, Operator::new(heard, failures, folder, progress, 10));
+    Told {
+        heard,
+        failures,
+        operator,
+    }
 }
 
 fn take(party: u8) -> Event {
@@ -36,19 +64,22 @@ fn take(party: u8) -> Event {
 }
 
 /// What is said when a party that holds three entries takes a datagram, which comes to this, twice.
-fn said_of_take(rt: &HostRuntime, party: u8, outcome: &Outcome) -> String {
-    let heard = KeptOutput::new(rt);
-    let failures = Failures::new();
-    let mut told = operator(&heard, &failures, "");
+fn said_of_take<'a>(
+    rt: &(impl AllocGlobal + Abort),
+    host: &'a HostRuntime,
+    party: u8,
+    outcome: &Outcome,
+) -> &'a str {
+    let told = operator_over(rt, host, "");
     for _ in 0..2 {
-        told.happened(&take(party), outcome, Some(3));
+        told.operator.happened(&take(party), outcome, Some(3));
     }
-    told.end();
-    heard.said()
+    told.operator.end();
+    told.heard.said()
 }
 
 #[test]
-fn signs_of_files_of_different_ages(rt: HostRuntime) -> Result<(), Fail> {
+fn signs_of_files_of_different_ages(rt: HostRuntime) {
     let illegal = Outcome::Took(TakeOutcome::Illegal(EntryFault::WrongPhase));
     for (party, outcome, sign) in [
         (
@@ -73,12 +104,9 @@ fn signs_of_files_of_different_ages(rt: HostRuntime) -> Result<(), Fail> {
             "at party 3: illegal entry 4",
         ),
     ] {
-        let said = said_of_take(&rt, party, &outcome);
-        let head = "bg_relay: the folders of the parties are from different points in time:";
-        let wanted = format!(in rt.alloc(); "{head} {sign}; {TOGETHER}\n")?;
-        assert!(rt; said.as_str() == wanted.as_str(), "{said}");
+        let said = said_of_take(&rt, &rt, party, &outcome);
+        assert!(rt; is_sign(said, sign), "{said}");
     }
-    Ok(())
 }
 
 #[test]
@@ -93,134 +121,167 @@ fn outcomes_of_which_nothing_is_said(rt: HostRuntime) {
         Outcome::NoDatagram,
         Outcome::LinkFault,
     ] {
-        let said = said_of_take(&rt, 0, &outcome);
-        assert!(rt; said.as_str() == "", "{said}");
+        let said = said_of_take(&rt, &rt, 0, &outcome);
+        assert!(rt; said.is_empty(), "{said}");
     }
+}
+
+/// A party begins again.
+fn restart<O: Observer>(operator: &mut O, party: u8, held: Number) {
+    operator.happened(&Event::Restart { party }, &Outcome::Restarted, Some(held));
 }
 
 /// What is said when the referee begins with so many entries, and the seats with so many.
-fn said_at_start(rt: &HostRuntime, held: [Number; 3]) -> String {
-    let heard = KeptOutput::new(rt);
-    let failures = Failures::new();
-    let mut told = operator(&heard, &failures, "");
-    for (party, held) in [0, 1, 2].iter().zip(held) {
-        told.happened(
-            &Event::Restart { party: *party },
-            &Outcome::Restarted,
-            Some(held),
-        );
-    }
-    heard.said()
+fn said_at_start<'a>(
+    rt: &(impl AllocGlobal + Abort),
+    host: &'a HostRuntime,
+    (referee, x, o): (Number, Number, Number),
+) -> &'a str {
+    let told = operator_over(rt, host, "");
+    restart(told.operator, 0, referee);
+    restart(told.operator, 1, x);
+    restart(told.operator, 2, o);
+    told.heard.said()
 }
 
 #[test]
-fn seats_that_begin_with_more(rt: HostRuntime) -> Result<(), Fail> {
+fn seats_that_begin_with_more(rt: HostRuntime) {
     for (held, sign) in [
-        ([4, 5, 6], "party 1 has 5 entries saved, the referee 4"),
-        ([1, 0, 2], "party 2 has 2 entries saved, the referee 1"),
+        ((4, 5, 6), "party 1 has 5 entries saved, the referee 4"),
+        ((1, 0, 2), "party 2 has 2 entries saved, the referee 1"),
     ] {
-        let said = said_at_start(&rt, held);
-        let head = "bg_relay: the folders of the parties are from different points in time:";
-        let wanted = format!(in rt.alloc(); "{head} {sign}; {TOGETHER}\n")?;
-        assert!(rt; said.as_str() == wanted.as_str(), "{said}");
+        let said = said_at_start(&rt, &rt, held);
+        assert!(rt; is_sign(said, sign), "{said}");
     }
-    assert!(rt; said_at_start(&rt, [4, 4, 0]).as_str() == "");
-    Ok(())
+    assert!(rt; said_at_start(&rt, &rt, (4, 4, 0)).is_empty());
+}
+
+/// A save of a party has succeeded.
+fn succeed<O: Observer>(operator: &mut O, party: u8) {
+    operator.happened(&Event::Save { party }, &Outcome::Saved(1), Some(0));
+}
+
+/// A save of a party has failed.
+fn fail<O: Observer>(operator: &mut O, party: u8) {
+    operator.happened(&Event::Save { party }, &Outcome::SaveFault, None);
+}
+
+/// Party 0 saves in the end, party 1 does not, and party 2 saved before, and can't be read any more.
+fn save_and_fail<O: Observer>(operator: &mut O) {
+    succeed(operator, 2);
+    for party in 0..3 {
+        fail(operator, party);
+        restart(operator, party, 0);
+    }
+    succeed(operator, 0);
+    let unread = Outcome::RestoreFault(RestoreCause::Device);
+    operator.happened(&Event::Restart { party: 2 }, &unread, None);
 }
 
 #[test]
 fn saves_that_never_succeeded(rt: HostRuntime) {
-    let heard = KeptOutput::new(&rt);
-    let failures = Failures::new();
-    let mut told = operator(&heard, &failures, "");
-    told.end();
-    assert!(rt; heard.said().as_str() == "");
-    // Party 0 saves in the end, party 1 does not, and party 2 saved before.
-    told.happened(&Event::Save { party: 2 }, &Outcome::Saved(1), Some(0));
-    for party in 0..3 {
-        told.happened(&Event::Save { party }, &Outcome::SaveFault, None);
-        told.happened(&Event::Restart { party }, &Outcome::Restarted, Some(0));
+    let told = operator_over(&rt, &rt, "");
+    told.operator.end();
+    assert!(rt; told.heard.said().is_empty());
+    save_and_fail(told.operator);
+    assert!(rt; told.heard.said().is_empty());
+    told.operator.end();
+    assert!(rt; told.heard.said() == "bg_relay: no save of party 1 succeeded\n");
+}
+
+/// A write fails, and the save with it.
+fn fails_to_save<K: Keeper, O: Observer>(keeper: &mut K, operator: &mut O) -> bool {
+    let result = keeper.write(Slot::One, b"text");
+    fail(operator, 1);
+    result == Err(DeviceFault::Failed)
+}
+
+/// Whether a folder is said to be missing, and nothing else.
+fn is_missing(said: &str, folder: &str) -> bool {
+    match said.strip_prefix("bg_relay: ") {
+        Some(rest) => {
+            rest.strip_prefix(folder)
+                == Some(" can't be found: No such file or directory (os error 2)\n")
+        }
+        None => false,
     }
-    told.happened(&Event::Save { party: 0 }, &Outcome::Saved(1), Some(0));
-    told.happened(
-        &Event::Restart { party: 2 },
-        &Outcome::RestoreFault(RestoreCause::Device),
-        None,
-    );
-    assert!(rt; heard.said().as_str() == "");
-    told.end();
-    assert!(rt; heard.said().as_str() == "bg_relay: no save of party 1 succeeded\n");
 }
 
 /// A device's reason comes before what that came to, and once while the device stays out of order.
 #[test]
-fn failures_of_devices(rt: HostRuntime) -> Result<(), Fail> {
-    let made = new_folder(&rt, "removed")?;
-    let folder = made.as_str();
-    fs::remove_dir(&rt, folder)?;
-    let heard = KeptOutput::new(&rt);
-    let failures = Failures::new();
-    let mut told = operator(&heard, &failures, folder);
-    let mut keeper = FileKeeper::new(&rt, folder, 1, &failures)?;
+fn failures_of_devices(rt: HostRuntime) {
+    let folder = lasting_folder(&rt, &rt, "removed");
+    fs::remove_dir(&rt, folder).expect(&rt, "an empty folder");
+    let told = operator_over(&rt, &rt, folder);
+    let keeper = FileKeeper::new(&rt, folder, 1, told.failures);
+    let keeper = lasting(&rt, keeper.expect(&rt, "the files of X"));
     for _ in 0..2 {
-        assert!(rt; keeper.write(Slot::One, b"text") == Err(DeviceFault::Failed));
-        told.happened(&Event::Save { party: 1 }, &Outcome::SaveFault, None);
+        assert!(rt; fails_to_save(keeper, told.operator));
     }
-    let why = "can't be found: No such file or directory (os error 2)";
-    let wanted = format!(in rt.alloc(); "bg_relay: {folder} {why}\n")?;
-    let said = heard.said();
-    assert!(rt; said.as_str() == wanted.as_str(), "{said}");
+    let said = told.heard.said();
+    assert!(rt; is_missing(said, folder), "{said}");
     assert!(rt; keeper.write(Slot::Zero, b"text") == Err(DeviceFault::Failed));
-    told.end();
-    let said = heard.said();
-    let wanted = "bg_relay: no save of party 1 succeeded\n";
-    assert!(rt; said.as_str() == wanted, "{said}");
-    Ok(())
+    told.operator.end();
+    let said = told.heard.said();
+    assert!(rt;
+        said == "bg_relay: no save of party 1 succeeded\n",
+        "{said}"
+    );
 }
 
 /// What is said while so many rounds are played over the folder.
-fn said_while_played(rt: &HostRuntime, folder: &str, rounds: u32) -> Result<String, Fail> {
-    let heard = KeptOutput::new(rt);
-    let failures = Failures::new();
-    let mut told = operator(&heard, &failures, folder);
-    let mut text = Vec::new(rt.alloc());
-    let mut output = Writing::new(&mut text);
-    play_loop(
-        rt,
+fn said_while_played<'a>(
+    rt: &(impl AllocGlobal + Abort),
+    host: &'a HostRuntime,
+    folder: &'a str,
+    rounds: u32,
+) -> &'a str {
+    let told = operator_over(rt, host, folder);
+    let text = lasting(rt, Vec::new(rt.alloc()));
+    let mut output = Writing::new(text);
+    let played = play_loop(
+        host,
         7,
         1,
         Rules::One,
         rounds,
         folder,
-        &failures,
+        told.failures,
         &mut output,
-        &mut told,
-    )?;
-    told.end();
-    Ok(heard.said())
+        told.operator,
+    );
+    played.expect(rt, "so many rounds");
+    told.operator.end();
+    told.heard.said()
+}
+
+/// The bytes of a file.
+fn bytes_of<'a>(rt: &impl Abort, host: &HostRuntime, path: &str) -> &'a [u8] {
+    read_saved(host, path).expect(rt, "a file is read").leak()
+}
+
+/// A file has these bytes from now on.
+fn write(rt: &impl Abort, host: &HostRuntime, path: &str, bytes: &[u8]) {
+    fs::write(host, path, bytes).expect(rt, "a file is written");
 }
 
 #[test]
-fn the_referee_of_an_older_day(rt: HostRuntime) -> Result<(), Fail> {
-    let folder = new_folder(&rt, "ages")?;
-    let folder = folder.as_str();
-    let zero = format!(in rt.alloc(); "{folder}/party-0.0")?;
-    let one = format!(in rt.alloc(); "{folder}/party-0.1")?;
-    assert!(rt; said_while_played(&rt, folder, 10)?.as_str() == "");
-    let older = [
-        read_saved(&rt, zero.as_str())?,
-        read_saved(&rt, one.as_str())?,
-    ];
-    assert!(rt; said_while_played(&rt, folder, 60)?.as_str() == "");
-    fs::write(&rt, zero.as_str(), older[0].as_slice())?;
-    fs::write(&rt, one.as_str(), older[1].as_slice())?;
-    let said = said_while_played(&rt, folder, 60)?;
-    let head =
-        "bg_relay: the folders of the parties are from different points in time: party 1 has ";
+fn the_referee_of_an_older_day(rt: HostRuntime) {
+    let folder = lasting_folder(&rt, &rt, "ages");
+    let (zero, one) = (
+        path_in(&rt, folder, "party-0.0"),
+        path_in(&rt, folder, "party-0.1"),
+    );
+    assert!(rt; said_while_played(&rt, &rt, folder, 10).is_empty());
+    let older = (bytes_of(&rt, &rt, zero), bytes_of(&rt, &rt, one));
+    assert!(rt; said_while_played(&rt, &rt, folder, 60).is_empty());
+    write(&rt, &rt, zero, older.0);
+    write(&rt, &rt, one, older.1);
+    let said = said_while_played(&rt, &rt, folder, 60);
+    let sign = said.strip_prefix(AGES).unwrap_or_default();
     assert!(rt;
-        said.as_str().starts_with(head) && said.as_str().lines().count() == 1,
+        sign.starts_with("party 1 has ") && said.lines().count() == 1,
         "{said}"
     );
-    fs::remove_dir_all(&rt, folder)?;
-    Ok(())
+    fs::remove_dir_all(&rt, folder).expect(&rt, "the folder is removed");
 }

@@ -1,9 +1,8 @@
 //! How players are called where others look on.
+use crate::lasting::lasting_text;
 use bg_console::{Called, Pairing, title_of};
-use bg_reports::Ending;
 use bg_system::{Name, Names};
 use std::process::Abort;
-use std::test::Fail;
 
 /// The names of players, of which an empty one is none.
 fn names_of(rt: &impl Abort, x: &str, o: &str) -> Names {
@@ -20,32 +19,55 @@ fn named(rt: &impl Abort, name: &str) -> Option<Name> {
     Some(Name::new(name).expect(rt, "a name"))
 }
 
+/// What the players are called.
+fn called_of<'a>(rt: &(impl AllocGlobal + Abort), names: &Names) -> &'a str {
+    let called = format!(in rt.alloc(); "{}, {}", Called::x(names), Called::o(names));
+    lasting_text(called.expect(rt, "memory"))
+}
+
+/// What both are called together; nothing where neither has a name.
+fn pairing_of<'a>(rt: &(impl AllocGlobal + Abort), names: &Names) -> &'a str {
+    match Pairing::of(names) {
+        Some(found) => {
+            let pairing = format!(in rt.alloc(); "{found}");
+            lasting_text(pairing.expect(rt, "memory"))
+        }
+        None => "",
+    }
+}
+
 /// What a player is called, and both, with and without names.
 #[test]
-fn players_are_called(rt: HostRuntime) -> Result<(), Fail> {
-    for (x, o, called_x, called_o, pairing) in [
-        ("", "", "X", "O", ""),
-        ("Anna", "", "Anna (X)", "O", "Anna against O"),
-        ("", "Otto", "X", "Otto (O)", "X against Otto"),
-        ("Anna", "Otto", "Anna (X)", "Otto (O)", "Anna against Otto"),
+fn players_are_called(rt: HostRuntime) {
+    for (x, o, wanted, wanted_of_both) in [
+        ("", "", "X, O", ""),
+        ("Anna", "", "Anna (X), O", "Anna against O"),
+        ("", "Otto", "X, Otto (O)", "X against Otto"),
+        ("Anna", "Otto", "Anna (X), Otto (O)", "Anna against Otto"),
     ] {
         let names = names_of(&rt, x, o);
-        let shown = format!(in rt.alloc(); "{}, {}", Called::x(&names), Called::o(&names))?;
-        let expected = format!(in rt.alloc(); "{called_x}, {called_o}")?;
-        assert!(rt; shown.as_str() == expected.as_str(), "{shown}");
-        let shown = match Pairing::of(&names) {
-            Some(found) => format!(in rt.alloc(); "{found}")?,
-            None => String::new(rt.alloc()),
-        };
-        assert!(rt; shown.as_str() == pairing, "{shown}");
+        let called = called_of(&rt, &names);
+        assert!(rt; called == wanted, "{called}");
+        let pairing = pairing_of(&rt, &names);
+        assert!(rt; pairing == wanted_of_both, "{pairing}");
     }
-    Ok(())
+}
+
+/// The title of a page of a match between these players.
+fn title<'a>(
+    rt: &impl Abort,
+    host: &HostRuntime,
+    given: Option<&str>,
+    x: &str,
+    o: &str,
+) -> &'a str {
+    lasting_text(title_of(host, given, &names_of(rt, x, o)).expect(rt, "memory"))
 }
 
 /// The title that is given counts, and then the names of both players.
 #[test]
-fn titles_of_pages(rt: HostRuntime) -> Result<(), Ending> {
-    for (given, x, o, title) in [
+fn titles_of_pages(rt: HostRuntime) {
+    for (given, x, o, wanted) in [
         (Some("T"), "Anna", "Otto", "T"),
         (Some(""), "Anna", "Otto", ""),
         (None, "Anna", "Otto", "Anna against Otto"),
@@ -53,8 +75,7 @@ fn titles_of_pages(rt: HostRuntime) -> Result<(), Ending> {
         (None, "", "Otto", "Backgammon match"),
         (None, "", "", "Backgammon match"),
     ] {
-        let made = title_of(&rt, given, &names_of(&rt, x, o))?;
-        assert!(rt; made.as_str() == title, "{made}");
+        let title = title(&rt, &rt, given, x, o);
+        assert!(rt; title == wanted, "{title}");
     }
-    Ok(())
 }

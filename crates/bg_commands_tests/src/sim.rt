@@ -5,11 +5,11 @@ use bg_console::Progress;
 use bg_match::Rules;
 use bg_match_commands::sim;
 use bg_options::SimOptions;
-use std::test::Fail;
+use std::process::Abort;
 
 /// What the command prints of a match of length 3, with two watchers.
-fn printed(rt: &HostRuntime, seed: u64, steps: u32) -> Option<Vec<u8>> {
-    let system = KeptOutput::new(rt);
+fn printed<'a>(host: &HostRuntime, seed: u64, steps: u32) -> Option<&'a [u8]> {
+    let system = KeptOutput::new(host);
     let progress = Progress::start(&system, false);
     let options = SimOptions {
         seed,
@@ -19,25 +19,28 @@ fn printed(rt: &HostRuntime, seed: u64, steps: u32) -> Option<Vec<u8>> {
         steps,
     };
     let ending = sim::run(&system, options, progress).ok()?;
-    if ending.status() != 0 || system.said().as_str() != "" {
+    if ending.status() != 0 || !system.said().is_empty() {
         return None;
     }
-    Some(system.into_printed())
+    let printed: &[u8] = system.into_printed().leak();
+    Some(printed)
+}
+
+/// What `sim_text` gives of the same match.
+fn text_of<'a>(rt: &(impl AllocGlobal + Abort), seed: u64, steps: u32) -> &'a [u8] {
+    let text = sim_text(rt.alloc(), seed, 3, Rules::One, 2, steps);
+    text.expect(rt, "a match").leak()
 }
 
 /// The command prints what `sim_text` gives of the same match: after so many events, and after one
 /// more, which tell more.
 #[test]
-fn command_prints_the_text_after_thousands_of_events(rt: HostRuntime) -> Result<(), Fail> {
+fn command_prints_the_text_after_thousands_of_events(rt: HostRuntime) {
     for (seed, steps) in [(34, 999), (4, 1000), (127, 1999), (127, 2000), (3, 2500)] {
-        let text = sim_text(rt.alloc(), seed, 3, Rules::One, 2, steps)?;
-        let further = sim_text(rt.alloc(), seed, 3, Rules::One, 2, steps.saturating_add(1))?;
-        assert!(rt; text != further, "{seed} {steps}");
-        assert!(rt; printed(&rt, seed, steps) == Some(text), "{seed} {steps}");
-        assert!(rt;
-            printed(&rt, seed, steps.saturating_add(1)) == Some(further),
-            "{seed} {steps}"
-        );
+        let text = text_of(&rt, seed, steps);
+        let further = text_of(&rt, seed, steps + 1);
+        let is_so = printed(&rt, seed, steps) == Some(text)
+            && printed(&rt, seed, steps + 1) == Some(further);
+        assert!(rt; is_so && text != further, "{seed} {steps}");
     }
-    Ok(())
 }
