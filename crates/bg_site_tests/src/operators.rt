@@ -1,177 +1,214 @@
 //! What is told of a match's dice, and what an operator changes of a match.
-use crate::keepers::{ShelfKeeper, lasting_shelf};
-use crate::requests::{OneShelf, action, answer_to, get, lasting_site, lasting_site_over, order};
+//!
+//! A play has a line for each thing that happens at a site, or is to be seen there; "other " stands
+//! before what happens at another site over the same shelf:
+//! - "get PATH > WORDS": the answer to a request for the path has these words;
+//! - "lacks PATH > WORDS": it lacks them;
+//! - "players ACTION": both players send it, and whoever is not on turn is refused;
+//! - "players ACTION > WORDS": the answers to both have these words;
+//! - "order": the match `made` is made, in which Anna has the seat of X;
+//! - "renew": the match is taken in as the shelf has it now;
+//! - "change shown", "change hidden": the operator has removed the names, given new links, and
+//!   wants it so; "no change": there is nothing to change;
+//! - "remove", "no match": it is removed, or is not there;
+//! - "fail", "full": the next write fails, or each one from now on, as nothing more is taken;
+//! - "restless", "still": something is left to do, or nothing;
+//! - "idle 10", "minute 9": matches are idle after so many minutes, and this one begins.
+
+use crate::keepers::{Shelf, ShelfKeeper, lasting_shelf};
+use crate::requests::{OneShelf, action, answer_to, get, lasting_site_over, order};
 use bg_match::{Rules, Terms};
 use bg_site::{Changed, Seats, Site, digest_of};
 use bg_system::Names;
 use std::process::Abort;
-use std::random::RandomSource;
 
 type Server<'a> = Site<ShelfKeeper<'a>, OneShelf<'a>>;
 
-/// A site with the match `made`.
-fn site_with_match<'a>(rt: &(impl AllocGlobal + Abort + RandomSource)) -> &'a mut Server<'a> {
-    let site = lasting_site(rt);
-    check_made(rt, site);
-    site
+/// What the operator has made of the match.
+fn changed(is_hidden: bool) -> Changed {
+    Changed {
+        names: Names::none(),
+        seats: Some(Seats {
+            x: digest_of("of x"),
+            o: digest_of("of o"),
+        }),
+        is_hidden,
+    }
 }
 
-/// The match `made` is made.
-fn check_made<'s>(rt: &(impl AllocGlobal + Abort + RandomSource), site: &mut Server<'s>) {
-    let answer = answer_to(rt, site, order(rt, "{\"length\":1,\"x\":\"Anna\"}"));
-    assert!(rt;
-        answer.contains("201 Created"),
-        "the order came to {answer}"
-    );
-}
-
-/// The answer to a request for a path has these words.
-fn check_path<'s>(
-    rt: &(impl AllocGlobal + Abort + RandomSource),
-    site: &mut Server<'s>,
-    path: &str,
-    words: &str,
-) {
-    let answer = answer_to(rt, site, get(rt, path));
-    assert!(rt; answer.contains(words), "{path} came to {answer}");
-}
-
-/// The answer to a request for a path lacks these words.
-fn check_without<'s>(
-    rt: &(impl AllocGlobal + Abort + RandomSource),
-    site: &mut Server<'s>,
-    path: &str,
-    words: &str,
-) {
-    let answer = answer_to(rt, site, get(rt, path));
-    assert!(rt; !answer.contains(words), "{path} came to {answer}");
-}
-
-/// The SHA-256 of 32 bytes that are 3 each.
-const DIGEST: &str = "sha256 648aa5c579fb30f38af744d97d6ec840c7a91277a499a0d780f3e7314eca090b\n";
-
-#[test]
-fn the_secret_of_the_dice_is_not_told_before_the_end(rt: HostRuntime) {
-    let site = site_with_match(&rt);
-    check_path(&rt, site, "/matches/made/dice", DIGEST);
-    check_without(&rt, site, "/matches/made/dice", "secret");
-}
-
-/// Changes the match: its secrets are these, and lists leave it out if that is wanted.
-fn change(site: &mut Server<'_>, x: &str, o: &str, is_hidden: bool) -> bool {
-    site.change(
-        "made",
-        Changed {
-            names: Names::none(),
-            seats: Some(Seats {
-                x: digest_of(x),
-                o: digest_of(o),
-            }),
-            is_hidden,
-        },
-    )
-}
-
-#[test]
-fn what_an_operator_changes(rt: HostRuntime) {
-    let site = site_with_match(&rt);
-    check_path(&rt, site, "/matches", "\"names\":[\"Anna\",\"\"]");
-    assert!(rt; change(site, "of x", "of o", false), "names are removed");
-    check_path(
-        &rt,
-        site,
-        "/matches",
-        "\"match\":\"made\",\"names\":[\"\",\"\"]",
-    );
-    assert!(rt; change(site, "of x", "of o", true), "it is hidden");
-    check_path(&rt, site, "/matches", "\"count\":0");
-    check_path(&rt, site, "/matches?search=made", "\"count\":0");
-    check_path(&rt, site, "/matches/made/state", "\"number\":1");
-    assert!(rt;
-        site.remove("made") && !site.remove("made"),
-        "it is deleted once"
-    );
-    check_path(&rt, site, "/matches/made/state", "404 Not Found");
-    check_path(&rt, site, "/matches/made/dice", "404 Not Found");
-    assert!(rt;
-        !change(site, "of x", "of o", false),
-        "what is deleted is not changed"
-    );
-}
-
-/// The match `made`, as its shelf has it now, is taken in.
-fn renew(rt: &(impl AllocGlobal + Abort), site: &mut Server<'_>) -> bool {
+/// Whether the match is taken in as its shelf has it now.
+fn is_renewed(site: &mut Server<'_>) -> bool {
     let terms = Terms {
         length: 1,
         rules: Rules::One,
     };
-    let made = site.store().made(terms, Names::none());
-    site.replace(made.expect(rt, "memory").found)
+    match site.store().made(terms, Names::none()) {
+        Ok(made) => site.replace(made.found),
+        Err(_) => false,
+    }
 }
+
+/// Whether the answers to a request have these words, or lack them.
+fn is_answered(
+    rt: &(impl AllocGlobal + Abort),
+    host: &HostRuntime,
+    site: &mut Server<'_>,
+    request: &str,
+    words: &str,
+) -> bool {
+    if let Some(path) = request.strip_prefix("get ") {
+        answer_to(rt, host, site, get(rt, path)).contains(words)
+    } else if let Some(path) = request.strip_prefix("lacks ") {
+        !answer_to(rt, host, site, get(rt, path)).contains(words)
+    } else if let Some(body) = request.strip_prefix("players ") {
+        let of_x = answer_to(rt, host, site, action(rt, "of x", body));
+        let of_o = answer_to(rt, host, site, action(rt, "of o", body));
+        of_x.contains(words) && of_o.contains(words)
+    } else {
+        false
+    }
+}
+
+/// Whether a line of one word comes to what it says.
+fn is_seen(shelf: &Shelf, site: &mut Server<'_>, line: &str) -> bool {
+    match line {
+        "renew" => is_renewed(site),
+        "change shown" => site.change("made", changed(false)),
+        "change hidden" => site.change("made", changed(true)),
+        "no change" => !site.change("made", changed(false)),
+        "remove" => site.remove("made"),
+        "no match" => !site.remove("made"),
+        "restless" => site.is_restless(),
+        "still" => !site.is_restless(),
+        "fail" => {
+            shelf.fail_after(0);
+            true
+        }
+        "full" => {
+            shelf.fill();
+            true
+        }
+        _ => false,
+    }
+}
+
+/// Whether a line comes to what it says.
+fn is_so(
+    rt: &(impl AllocGlobal + Abort),
+    host: &HostRuntime,
+    shelf: &Shelf,
+    site: &mut Server<'_>,
+    line: &str,
+) -> bool {
+    if let Some((request, words)) = line.split_once(" > ") {
+        is_answered(rt, host, site, request, words)
+    } else if line.starts_with("players ") {
+        is_answered(rt, host, site, line, "\"re\":")
+    } else if let Some(minutes) = line.strip_prefix("idle ") {
+        site.set_idle(minutes.parse().expect(rt, "minutes"));
+        true
+    } else if let Some(minute) = line.strip_prefix("minute ") {
+        site.begin_minute(minute.parse().expect(rt, "a minute"));
+        true
+    } else if line == "order" {
+        answer_to(rt, host, site, order(rt, "{\"length\":1,\"x\":\"Anna\"}")).contains(
+            "201 Created",
+        )
+    } else {
+        is_seen(shelf, site, line)
+    }
+}
+
+/// Each line of a play comes to what it says.
+fn check_play(rt: &(impl AllocGlobal + Abort), host: &HostRuntime, play: &str) {
+    let shelf = lasting_shelf(rt);
+    let (site, other) = (lasting_site_over(rt, shelf), lasting_site_over(rt, shelf));
+    for line in play.lines() {
+        let is_so = match line.strip_prefix("other ") {
+            Some(line) => is_so(rt, host, shelf, other, line),
+            None => is_so(rt, host, shelf, site, line),
+        };
+        assert!(rt; is_so, "{line}");
+    }
+}
+
+/// The SHA-256 is that of 32 bytes that are 3 each.
+const DICE: &str = "order
+get /matches/made/dice > sha256 648aa5c579fb30f38af744d97d6ec840c7a91277a499a0d780f3e7314eca090b
+lacks /matches/made/dice > secret";
+
+#[test]
+fn the_secret_of_the_dice_is_not_told_before_the_end(rt: HostRuntime) {
+    check_play(&rt, &rt, DICE);
+}
+
+const CHANGED: &str = r#"order
+get /matches > "names":["Anna",""]
+change shown
+get /matches > "match":"made","names":["",""]
+change hidden
+get /matches > "count":0
+get /matches?search=made > "count":0
+get /matches/made/state > "number":1
+remove
+no match
+get /matches/made/state > 404 Not Found
+get /matches/made/dice > 404 Not Found
+no change"#;
+
+#[test]
+fn what_an_operator_changes(rt: HostRuntime) {
+    check_play(&rt, &rt, CHANGED);
+}
+
+/// At first the other site does not have the match yet, and then it is behind.
+const RENEWED: &str = r#"order
+other renew
+players 2 resign normal
+get /matches/made/state > "number":2
+other get /matches/made/state > "number":1
+other renew
+other get /matches/made/state > "number":2
+other get /matches > "names":["",""]
+other players 3 reject
+other get /matches/made/state > "number":3
+renew
+get /matches/made/state > "number":3"#;
 
 #[test]
 fn a_match_goes_on_from_what_another_site_has_saved(rt: HostRuntime) {
-    let shelf = lasting_shelf(&rt);
-    let (site, other) = (lasting_site_over(&rt, shelf), lasting_site_over(&rt, shelf));
-    check_made(&rt, site);
-    assert!(rt; renew(&rt, other), "a match that is not there yet");
-    // Whoever is on turn offers to resign; of the other it is refused.
-    for secret in ["of x", "of o"] {
-        let _ = answer_to(&rt, site, action(&rt, secret, "2 resign normal"));
-    }
-    check_path(&rt, site, "/matches/made/state", "\"number\":2");
-    check_path(&rt, other, "/matches/made/state", "\"number\":1");
-    assert!(rt; renew(&rt, other), "a match that is behind");
-    check_path(&rt, other, "/matches/made/state", "\"number\":2");
-    check_path(&rt, other, "/matches", "\"names\":[\"\",\"\"]");
-    for secret in ["of x", "of o"] {
-        let _ = answer_to(&rt, other, action(&rt, secret, "3 reject"));
-    }
-    check_path(&rt, other, "/matches/made/state", "\"number\":3");
-    assert!(rt; renew(&rt, site), "a match that is behind");
-    check_path(&rt, site, "/matches/made/state", "\"number\":3");
+    check_play(&rt, &rt, RENEWED);
 }
+
+/// A save that has failed is tried again; a match that is full is left alone.
+const TOO_LONG: &str = r#"order
+fail
+players 2 resign normal
+restless
+full
+still
+players 2 resign normal > {"re":2,"no":"too long to be saved here"}
+get /matches/made/state > "number":1"#;
 
 #[test]
 fn a_match_that_is_too_long_to_be_saved_is_still(rt: HostRuntime) {
-    let shelf = lasting_shelf(&rt);
-    let site = lasting_site_over(&rt, shelf);
-    check_made(&rt, site);
-    shelf.fail_after(0);
-    // Whoever is on turn offers to resign, which is not saved.
-    for secret in ["of x", "of o"] {
-        let _ = answer_to(&rt, site, action(&rt, secret, "2 resign normal"));
-    }
-    assert!(rt; site.is_restless(), "a save that has failed is tried again");
-    shelf.fill();
-    assert!(rt; !site.is_restless(), "a match that is full");
-    for secret in ["of x", "of o"] {
-        let answer = answer_to(&rt, site, action(&rt, secret, "2 resign normal"));
-        assert!(rt;
-            answer.contains("{\"re\":2,\"no\":\"too long to be saved here\"}"),
-            "{answer}"
-        );
-    }
-    check_path(&rt, site, "/matches/made/state", "\"number\":1");
+    check_play(&rt, &rt, TOO_LONG);
 }
+
+const IDLE: &str = r#"order
+idle 10
+minute 9
+get /matches?list=idle > "count":0
+get /matches > "count":1
+minute 10
+get /matches?list=idle > "count":1
+get /matches > "count":0
+get /matches?list=finished > "count":0
+get /metrics > bg_relay_matches{state="idle"} 1
+idle 0
+get /matches > "count":1"#;
 
 #[test]
 fn matches_without_an_action_are_listed_apart(rt: HostRuntime) {
-    let site = site_with_match(&rt);
-    site.set_idle(10);
-    site.begin_minute(9);
-    check_path(&rt, site, "/matches?list=idle", "\"count\":0");
-    check_path(&rt, site, "/matches", "\"count\":1");
-    site.begin_minute(10);
-    check_path(&rt, site, "/matches?list=idle", "\"count\":1");
-    check_path(&rt, site, "/matches", "\"count\":0");
-    check_path(&rt, site, "/matches?list=finished", "\"count\":0");
-    check_path(
-        &rt,
-        site,
-        "/metrics",
-        "bg_relay_matches{state=\"idle\"} 1\n",
-    );
-    site.set_idle(0);
-    check_path(&rt, site, "/matches", "\"count\":1");
+    check_play(&rt, &rt, IDLE);
 }

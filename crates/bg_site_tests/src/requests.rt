@@ -8,7 +8,6 @@ use http_server::{Config, Connection};
 use std::alloc::{AllocError, Global};
 use std::hash::RandomState;
 use std::process::Abort;
-use std::random::RandomSource;
 
 /// A store that makes matches over one shelf, each with the same secrets.
 #[derive(Drop)]
@@ -79,11 +78,12 @@ pub(crate) fn lasting_site_over<'a>(
 
 /// The bytes of the answer to a request, which last as long as the process.
 pub(crate) fn answer_to<'a, 's>(
-    rt: &(impl AllocGlobal + Abort + RandomSource),
+    rt: &(impl AllocGlobal + Abort),
+    host: &HostRuntime,
     site: &mut Site<ShelfKeeper<'s>, OneShelf<'s>>,
     request: &str,
 ) -> &'a str {
-    let keys = RandomState::new(rt).expect(rt, "random bytes");
+    let keys = RandomState::new(host).expect(rt, "random bytes");
     let connection = Connection::new(rt.alloc(), keys, Config::default());
     let answer = talk(
         lasting(rt, connection),
@@ -91,8 +91,7 @@ pub(crate) fn answer_to<'a, 's>(
         request.as_bytes(),
         rt.alloc(),
     );
-    let answer: &mut Vec<u8> = lasting(rt, answer.expect(rt, "memory"));
-    str::from_utf8(answer.as_slice()).unwrap_or("no text")
+    str::from_utf8(answer.expect(rt, "memory").leak()).unwrap_or("no text")
 }
 
 /// The largest number of reads of a request, and of writes of its answer.
@@ -175,13 +174,13 @@ const ORDERS: &str = r#"{"length":3} > 201 Created > "match":"made"
 #[test]
 fn orders_of_matches(rt: HostRuntime) {
     for row in ORDERS.lines() {
-        check_order(&rt, row);
+        check_order(&rt, &rt, row);
     }
 }
 
-fn check_order(rt: &(impl AllocGlobal + Abort + RandomSource), row: &str) {
+fn check_order(rt: &(impl AllocGlobal + Abort), host: &HostRuntime, row: &str) {
     let (body, status, words) = parts_of(row).expect(rt, "three parts");
-    let answer = answer_to(rt, lasting_site(rt), order(rt, body));
+    let answer = answer_to(rt, host, lasting_site(rt), order(rt, body));
     let is_right = answer.contains(status) && answer.contains(words);
     assert!(rt; is_right, "{row} came to {answer}");
 }
@@ -206,7 +205,7 @@ const KEYS: [(&str, usize); 5] = [
 fn an_order_that_is_repeated_makes_no_other_match(rt: HostRuntime) {
     let site = lasting_site(&rt);
     for (key, matches) in KEYS {
-        let answer = answer_to(&rt, site, order_with(&rt, key));
+        let answer = answer_to(&rt, &rt, site, order_with(&rt, key));
         let is_right = answer.contains("201 Created") && answer.contains("\"match\":\"made\"");
         assert!(rt; is_right && site.len() == matches, "{key} came to {answer}");
     }
