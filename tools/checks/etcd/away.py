@@ -3,47 +3,34 @@ import signal
 import time
 
 from counting import right
-from etcd.seen import is_good_seat
+from etcd.seen import SEATED, STRANGER, greeting
+from etcd.servers import NOT_NOW
 from parties import comes
 from serving.operators import manage
 
 # An answer takes less than so many seconds while members hang: a server that waits for each member takes more. So often it
 # is asked, and tried again.
 MOST_ANSWER, OFTEN, TRIES = 4, 12, 3
-# A proxy that asks how a server is waits so many seconds for the answer.
-PATIENCE = 5
-WELL = (200, b"ok\n")
-NOT_NOW = (503, b"nothing can be saved at the moment: try again later\n")
-
-
-def health(server):
-    """What a server says of itself, or None: whoever asks in the very turn in which it finds its cluster away waits."""
-    try:
-        status, _, text = server.ask("/health", seconds=PATIENCE)
-    except OSError:
-        return None
-    return status, text
-
 
 def lose_while_idle(fleet, cluster):
     """A server that has nothing to save says that its cluster is away, where members are gone, and where they hang."""
-    right(comes(lambda: health(fleet[0]) == WELL), "a server is not well at first")
+    right(fleet[0].is_well(), "a server is not well at first")
     for at in range(1, cluster.count):
         cluster.kill(at)
-    right(comes(lambda: health(fleet[0]) == NOT_NOW, 60), f"an idle server without a cluster says {health(fleet[0])}")
+    right(comes(lambda: fleet[0].health() == NOT_NOW, 60), f"an idle server without a cluster says {fleet[0].health()}")
     for at in range(1, cluster.count):
         cluster.begin_member(at)
     cluster.wait()
-    right(comes(lambda: health(fleet[0]) == WELL), "an idle server is not well when the cluster is back")
+    right(fleet[0].is_well(), "an idle server is not well when the cluster is back")
     for at in range(cluster.count):
         cluster.send(at, signal.SIGSTOP)
-    right(comes(lambda: health(fleet[0]) == NOT_NOW, 60), f"an idle server whose members hang says {health(fleet[0])}")
+    right(comes(lambda: fleet[0].health() == NOT_NOW, 60), f"an idle server whose members hang says {fleet[0].health()}")
     is_quick = any(longest_answer(fleet[0]) < MOST_ANSWER for _ in range(TRIES))
     right(is_quick, f"while members hang, answers take {MOST_ANSWER} s and more")
     for at in range(cluster.count):
         cluster.send(at, signal.SIGCONT)
     cluster.wait()
-    right(comes(lambda: health(fleet[0]) == WELL), "an idle server is not well when members go on")
+    right(fleet[0].is_well(), "an idle server is not well when members go on")
 
 
 def longest_answer(server):
@@ -51,7 +38,7 @@ def longest_answer(server):
     longest = 0
     for _ in range(OFTEN):
         begun = time.monotonic()
-        health(server)
+        server.health()
         longest = max(longest, time.monotonic() - begun)
         time.sleep(0.3)
     return longest
@@ -74,5 +61,6 @@ def keep_changes(fleet, cluster):
     cluster.wait()
     fleet.begin_one(fleet[0])
     for server in fleet.servers:
-        right(comes(lambda: is_good_seat(server, new), 60), "a link that was made while the cluster was away is lost")
-    right(not is_good_seat(fleet[2], made["x"].split("#")[1]), "an old link is good at another server")
+        seated = comes(lambda: greeting(server, new) == SEATED, 60)
+        right(seated, "a link that was made while the cluster was away is lost")
+    right(greeting(fleet[2], made["x"].split("#")[1]) == STRANGER, "an old link is good at another server")

@@ -4,7 +4,7 @@ import threading
 import time
 
 from counting import right
-from etcd.seen import act, done, is_good_seat
+from etcd.seen import SEATED, act, done, greeting
 from etcd.servers import same_lines
 from parties import comes
 from serving.operators import manage
@@ -84,7 +84,7 @@ def renew_while_played(fleet):
             right(status == 0, f"a seat has no new link, time {at}: {said}")
             made[seat] = out.strip()
             secret = made[seat].split("#")[1]
-            right(comes(lambda: is_good_seat(fleet[2], secret)), f"a new link is not good at another server, time {at}")
+            right(comes(lambda: greeting(fleet[2], secret) == SEATED), f"a new link is not good at another server, time {at}")
     finally:
         stop.set()
         player.join()

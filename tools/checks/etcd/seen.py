@@ -3,7 +3,7 @@ import os
 import time
 
 from counting import right
-from etcd.servers import same_lines
+from etcd.servers import NOT_NOW, same_lines
 from parties import comes
 from serving.asking import bearer, lines_of, state_of
 from serving.operators import manage
@@ -11,6 +11,8 @@ from web_sockets import Closed, Socket
 
 # For so long it is waited until a server shows what another has saved, which comes at once where the machine is idle.
 SECONDS_SEEN = 60
+# What a server says to whoever says the secret of a seat, and any other.
+SEATED, STRANGER = {"hello": True}, {"no": "there is no such seat"}
 
 
 def act(server, made, number, words):
@@ -117,24 +119,27 @@ def renew_elsewhere(fleet, made):
     status, out, _ = manage(fleet[0], "--match", made["match"], "--new-link", "x")
     right(status == 0, "a seat has no new link")
     new, old = out.strip().split("#")[1], made["x"].split("#")[1]
-    right(comes(lambda: is_good_seat(fleet[2], new)), "a new link is not good at another server")
-    right(not is_good_seat(fleet[2], old), "an old link is good at another server")
+    right(comes(lambda: greeting(fleet[2], new) == SEATED), "a new link is not good at another server")
+    right(greeting(fleet[2], old) == STRANGER, "an old link is good at another server")
 
 
-def is_good_seat(server, secret):
-    """Whether who says this secret has a seat."""
-    link = Socket(server.port, "/play/live", timeout=30)
-    link.send("hello " + secret)
+def greeting(server, secret):
+    """What a server says to whoever says this secret: SEATED, STRANGER, or None where it takes nobody in at the moment."""
+    link = None
     try:
-        return link.message().get("hello", False)
+        link = Socket(server.port, "/play/live", timeout=30)
+        link.send("hello " + secret)
+        return link.message()
     except (Closed, OSError):
-        return False
+        return None
     finally:
-        link.close()
+        if link:
+            link.close()
 
 
 def lose_the_cluster(fleet, cluster):
     """While most members are gone nobody is told that anything is done, and whoever comes is told so; later all goes on."""
+    right(fleet[0].is_well(), "a server is not well at first")
     made = fleet[0].make(length=3)
     name = made["match"]
     right(fleet.all_have(name, 1), "a match is not at all servers")
@@ -152,12 +157,11 @@ def lose_the_cluster(fleet, cluster):
     except (Closed, OSError):
         pass
     right(not any(message.get("done") or message.get("number", 0) > 1 for message in told), f"without a cluster: {told}")
-    status, _, text = fleet[0].ask("/health")
-    right((status, text) == (503, b"nothing can be saved at the moment: try again later\n"), f"without a cluster: {status} {text}")
+    right(comes(lambda: fleet[0].health() == NOT_NOW, 60), f"without a cluster: {fleet[0].health()}")
     for at in range(1, cluster.count):
         cluster.begin_member(at)
     cluster.wait()
-    right(comes(lambda: fleet[0].ask("/health")[0] == 200), "a server is not well when the cluster is back")
+    right(fleet[0].is_well(), "a server is not well when the cluster is back")
     link.sock.settimeout(60)
     right(comes_to(link, 2), "the match does not go on when the cluster is back")
     right(len(same_lines(fleet, name)) == 3, "servers lack what was saved when the cluster came back")
@@ -173,6 +177,7 @@ def miss_what_is_compacted(fleet, cluster):
         cluster.kill(at)
         cluster.begin_member(at)
     cluster.wait()
+    right(fleet[0].is_well() and fleet[2].is_well(), "a server is not well when all members began anew")
     right(act(fleet[0], made, 2, "resign normal") == done(2), "an action after all members began anew")
     right(manage(fleet[0], "--match", gone, "--delete")[0] == 0, "a match is not deleted")
     right(comes(lambda: fleet[2].ask(f"/matches/{gone}")[0] == 404), "another server has what is deleted")

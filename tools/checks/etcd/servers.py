@@ -9,6 +9,13 @@ from served import Served
 from serving.asking import lines_of, state_of
 
 
+# What a server says of itself: that it is well, or that its cluster is away.
+WELL = (200, b"ok\n")
+NOT_NOW = (503, b"nothing can be saved at the moment: try again later\n")
+# A proxy that asks how a server is waits so many seconds for the answer.
+PATIENCE = 5
+
+
 class Sharing(Served):
     """A server of the fleet. What it says is kept in a file, as nobody reads it meanwhile."""
 
@@ -21,6 +28,18 @@ class Sharing(Served):
 
     def go_on(self):
         self.process.send_signal(signal.SIGCONT)
+
+    def health(self):
+        """What it says of itself, or None: whoever asks in the very turn in which it finds its cluster away waits."""
+        try:
+            status, _, text = self.ask("/health", seconds=PATIENCE)
+        except OSError:
+            return None
+        return status, text
+
+    def is_well(self):
+        """Whether it comes to say that it is well."""
+        return comes(lambda: self.health() == WELL)
 
     def end(self):
         """Ends it, and gives what it has said."""
