@@ -2,8 +2,8 @@
 use Rattle.std.proofs.Common.{◌≡◌, ◌≤◌, ◌%◌, ℕ, Some, None, subst, sym, ◌∙◌, arith}
 use Rattle.bg_board.specs.declared.players.Player.{Player}
 use Rattle.bg_match.specs.Match.{Log}
-use Rattle.bg_world.specs.Worlds.Views.{WorldView}
-use Rattle.bg_world.specs.declared.events.Event.{Event}
+use Rattle.bg_protocol.specs.Worlds.Views.{WorldView}
+use Rattle.bg_protocol.specs.declared.events.Event.{Event}
 use Rattle.bg_auto.specs.AutoAction.{IsAutoAction}
 use Rattle.bg_auto.specs.Schedule.{IsChoice, IsScheduled, named_player, seat_log}
 

@@ -4,10 +4,10 @@ use Rattle.std.specs.Prelude.{if◌then◌else◌, Option, Some, None, Err}
 use Rattle.bg_referee.specs.declared.outcomes.DueFault.TheVariants as due
 use Rattle.bg_referee.specs.declared.outcomes.TakeOutcome.TheVariants as take
 use Rattle.bg_match.specs.Match.{Log}
-use Rattle.bg_world.specs.declared.events.Event.{Event}
-use Rattle.bg_world.specs.declared.events.Event.TheVariants.{Restart}
-use Rattle.bg_world.specs.declared.events.Outcome.{Outcome}
-use Rattle.bg_world.specs.declared.events.Outcome.TheVariants.{Due, Took}
+use Rattle.bg_protocol.specs.declared.events.Event.{Event}
+use Rattle.bg_protocol.specs.declared.events.Event.TheVariants.{Restart}
+use Rattle.bg_protocol.specs.declared.events.Outcome.{Outcome}
+use Rattle.bg_protocol.specs.declared.events.Outcome.TheVariants.{Due, Took}
 use Rattle.bg_auto.specs.declared.dice_attempts.DiceAttempts.{DiceAttempts}
 use Rattle.bg_auto.specs.Words.{attempts, key_bytes, keyed_dice_word}
 

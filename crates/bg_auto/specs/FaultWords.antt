@@ -1,6 +1,6 @@
 -- The words of faults.
 use Rattle.std.specs.Prelude.{ℕ, List, codes}
-use Rattle.bg_world.specs.Texts.FaultWords.{world_fault_words}
+use Rattle.bg_protocol.specs.FaultWords.{world_fault_words}
 use Rattle.bg_world.specs.Texts.OutcomeText.{outcome_text}
 use Rattle.bg_auto.specs.declared.loop_faults.LoopFault.{LoopFault}
 use Rattle.bg_auto.specs.declared.loop_faults.LoopFault.TheVariants as loop_fault

@@ -4,13 +4,13 @@ use Rattle.bg_match.specs.declared.limits.Rules.{Rules}
 use Rattle.bg_streams.specs.Transfers.{WritesText}
 use Rattle.bg_streams.specs.declared.devices.Sink.{Ghosts as SinkGhosts}
 use Rattle.bg_world.specs.Texts.FinalText.{IsFinalText}
-use Rattle.bg_world.specs.Worlds.Starts.{IsWorldFault, fresh_world, terms_in}
-use Rattle.bg_world.specs.Protocol.State.{IsSetup}
-use Rattle.bg_world.specs.Worlds.Views.{KeeperView, LinkView}
-use Rattle.bg_world.specs.Worlds.World.{view_of}
-use Rattle.bg_world.specs.declared.devices.Keeper as keeper
-use Rattle.bg_world.specs.declared.devices.Link as link
-use Rattle.bg_world.specs.declared.worlds.setups.Setup.{Setup}
+use Rattle.bg_protocol.specs.Worlds.Starts.{IsWorldFault, fresh_world, terms_in}
+use Rattle.bg_protocol.specs.Protocol.State.{IsSetup}
+use Rattle.bg_protocol.specs.Worlds.Views.{KeeperView, LinkView}
+use Rattle.bg_protocol.specs.Worlds.World.{view_of}
+use Rattle.bg_protocol.specs.declared.devices.Keeper as keeper
+use Rattle.bg_protocol.specs.declared.devices.Link as link
+use Rattle.bg_protocol.specs.declared.worlds.setups.Setup.{Setup}
 use Rattle.bg_auto.specs.Rounds.{Moment, PlaysParts, StopsIn, match_parts}
 use Rattle.bg_auto.specs.declared.loop_faults.LoopFault.{LoopFault}
 use Rattle.bg_auto.specs.declared.loop_faults.LoopFault.TheVariants.{Memory, Socket, Stopped, World, Write}

@@ -6,15 +6,15 @@ use Rattle.bg_board.specs.declared.players.Player.TheVariants.{X, O}
 use Rattle.bg_match.specs.Match.{Log}
 use Rattle.bg_match.specs.declared.actions.Action.{Action}
 use Rattle.bg_wire.specs.Entries.Codes.{referee, seat_of_x, seat_of_o, first_watcher}
-use Rattle.bg_world.specs.Worlds.Calls.{Calls}
-use Rattle.bg_world.specs.Worlds.Starts.{held_of}
-use Rattle.bg_world.specs.Worlds.Views.{WorldView}
-use Rattle.bg_world.specs.Worlds.WorldRuns.{is_memory}
-use Rattle.bg_world.specs.declared.events.Event.{Event}
-use Rattle.bg_world.specs.declared.events.Event.TheVariants as events
-use Rattle.bg_world.specs.declared.events.Outcome.{Outcome}
-use Rattle.bg_world.specs.declared.events.Outcome.TheVariants.{RestoreFault, SaveFault}
-use Rattle.bg_world.specs.declared.roles.Role.TheVariants as roles
+use Rattle.bg_protocol.specs.Worlds.Calls.{Calls}
+use Rattle.bg_protocol.specs.Worlds.Starts.{held_of}
+use Rattle.bg_protocol.specs.Worlds.Views.{WorldView}
+use Rattle.bg_protocol.specs.Worlds.WorldRuns.{is_memory}
+use Rattle.bg_protocol.specs.declared.events.Event.{Event}
+use Rattle.bg_protocol.specs.declared.events.Event.TheVariants as events
+use Rattle.bg_protocol.specs.declared.events.Outcome.{Outcome}
+use Rattle.bg_protocol.specs.declared.events.Outcome.TheVariants.{RestoreFault, SaveFault}
+use Rattle.bg_protocol.specs.declared.roles.Role.TheVariants as roles
 use Rattle.bg_auto.specs.Attempts.{Notes, held_entries, restarts_referee, word_for}
 use Rattle.bg_auto.specs.AutoAction.{IsAutoAction, IsToMove}
 use Rattle.bg_auto.specs.Schedule.{seat_log}

@@ -5,12 +5,12 @@ use Rattle.bg_board.specs.declared.players.Player.TheVariants.{X, O}
 use Rattle.bg_match.specs.Match.{Log}
 use Rattle.bg_match.specs.declared.actions.Action.{Action}
 use Rattle.bg_wire.specs.Parties.{party_of}
-use Rattle.bg_world.specs.Devices.Handed.{count_to}
-use Rattle.bg_world.specs.Protocol.Roles.{role}
-use Rattle.bg_world.specs.Worlds.Starts.{held_of}
-use Rattle.bg_world.specs.Worlds.Views.{WorldView}
-use Rattle.bg_world.specs.declared.events.Event.{Event}
-use Rattle.bg_world.specs.declared.events.Event.TheVariants.{Choose, Due, Restart, Save, Take, Tick}
+use Rattle.bg_protocol.specs.Devices.Handed.{count_to}
+use Rattle.bg_protocol.specs.Protocol.Roles.{role}
+use Rattle.bg_protocol.specs.Worlds.Starts.{held_of}
+use Rattle.bg_protocol.specs.Worlds.Views.{WorldView}
+use Rattle.bg_protocol.specs.declared.events.Event.{Event}
+use Rattle.bg_protocol.specs.declared.events.Event.TheVariants.{Choose, Due, Restart, Save, Take, Tick}
 use Rattle.bg_auto.specs.AutoAction.{IsAutoAction}
 
 -- of so many datagrams to a party: the last, or one of the four before it; else a pick that names

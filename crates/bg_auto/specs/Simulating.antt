@@ -5,22 +5,22 @@ use Rattle.bg_match.specs.declared.limits.Rules.{Rules}
 use Rattle.bg_streams.specs.declared.faults.EngineFault.TheVariants as engine
 use Rattle.bg_text.specs.Boards.Transcript.{IsTranscript}
 use Rattle.bg_wire.specs.Entries.Codes.{first_watcher}
-use Rattle.bg_world.specs.Worlds.Calls.{Calls}
+use Rattle.bg_protocol.specs.Worlds.Calls.{Calls}
 use Rattle.bg_world.specs.Texts.FinalText.{IsFinalText}
-use Rattle.bg_world.specs.Worlds.Simulations.{IsEmptyPlan, Simulates, memory_view}
-use Rattle.bg_world.specs.Worlds.Starts.{IsWorldFault, held_of, terms_in}
-use Rattle.bg_world.specs.Worlds.Views.{WorldView}
-use Rattle.bg_world.specs.Worlds.WorldRuns.{is_memory}
-use Rattle.bg_world.specs.declared.events.Event.{Event}
-use Rattle.bg_world.specs.declared.events.Outcome.{Outcome}
-use Rattle.bg_world.specs.declared.events.Outcome.TheVariants.{SaveFault}
-use Rattle.bg_world.specs.declared.devices.plans.Plan.{Plan}
-use Rattle.bg_world.specs.declared.roles.Role.TheVariants as roles
-use Rattle.bg_world.specs.Protocol.State.{IsSetup}
-use Rattle.bg_world.specs.declared.worlds.runs.RunReport.{RunReport}
+use Rattle.bg_protocol.specs.Worlds.Simulations.{IsEmptyPlan, Simulates, memory_view}
+use Rattle.bg_protocol.specs.Worlds.Starts.{IsWorldFault, held_of, terms_in}
+use Rattle.bg_protocol.specs.Worlds.Views.{WorldView}
+use Rattle.bg_protocol.specs.Worlds.WorldRuns.{is_memory}
+use Rattle.bg_protocol.specs.declared.events.Event.{Event}
+use Rattle.bg_protocol.specs.declared.events.Outcome.{Outcome}
+use Rattle.bg_protocol.specs.declared.events.Outcome.TheVariants.{SaveFault}
+use Rattle.bg_protocol.specs.declared.devices.plans.Plan.{Plan}
+use Rattle.bg_protocol.specs.declared.roles.Role.TheVariants as roles
+use Rattle.bg_protocol.specs.Protocol.State.{IsSetup}
+use Rattle.bg_protocol.specs.declared.worlds.runs.RunReport.{RunReport}
 use Rattle.bg_world.specs.declared.texts.scripts.ScriptFault.{ScriptFault}
 use Rattle.bg_world.specs.declared.texts.scripts.ScriptFault.TheVariants.{Engine, World}
-use Rattle.bg_world.specs.declared.worlds.setups.Setup.{Setup}
+use Rattle.bg_protocol.specs.declared.worlds.setups.Setup.{Setup}
 use Rattle.bg_auto.specs.Attempts.{Notes, held_entries, restarts_referee, word_for}
 use Rattle.bg_auto.specs.Schedule.{IsScheduled}
 use Rattle.bg_auto.specs.Words.{event_words}

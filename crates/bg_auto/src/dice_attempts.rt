@@ -2,10 +2,10 @@
 ghost use Rattle.std.specs.Prelude.{◌≡◌, option_copied};
 ghost use Rattle.bg_auto.specs.Attempts.{Notes, held_entries, restarts_referee as is_restart};
 ghost use Rattle.bg_auto.specs.Attempts.{keyed_word_for, was_in_vain as is_in_vain, word_for};
-ghost use Rattle.bg_world.specs.Worlds.Calls.{Calls};
-ghost use Rattle.bg_world.specs.Protocol.Roles.{role};
-ghost use Rattle.bg_world.specs.Worlds.Starts.{held_of};
-ghost use Rattle.bg_world.specs.Worlds.World.{view_of};
+ghost use Rattle.bg_protocol.specs.Worlds.Calls.{Calls};
+ghost use Rattle.bg_protocol.specs.Protocol.Roles.{role};
+ghost use Rattle.bg_protocol.specs.Worlds.Starts.{held_of};
+ghost use Rattle.bg_protocol.specs.Worlds.World.{view_of};
 
 use crate::words::{key_of_seed, next_dice_word};
 use bg_match::{Number, Record};

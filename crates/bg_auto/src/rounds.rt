@@ -4,9 +4,9 @@ ghost use Rattle.bg_auto.specs.RoundResults.{IsGood, IsRoundsResult, WritesEnd, 
 ghost use Rattle.bg_auto.specs.RoundResults.{IsWriteFault, start_moment};
 ghost use Rattle.bg_auto.specs.Rounds.{Happens, IsChosen, IsEventOf, MayLackMemory, PlaysPart, PlaysParts, StopsAt};
 ghost use Rattle.bg_auto.specs.Rounds.{StopsIn, ends, match_parts, next_word};
-ghost use Rattle.bg_world.specs.Worlds.Starts.{IsWorldFault};
-ghost use Rattle.bg_world.specs.Worlds.Views.{keeper_view, link_view};
-ghost use Rattle.bg_world.specs.declared.events.Outcome.{Outcome as AnOutcome};
+ghost use Rattle.bg_protocol.specs.Worlds.Starts.{IsWorldFault};
+ghost use Rattle.bg_protocol.specs.Worlds.Views.{keeper_view, link_view};
+ghost use Rattle.bg_protocol.specs.declared.events.Outcome.{Outcome as AnOutcome};
 
 use crate::auto_actions::auto_action;
 use crate::dice_attempts::{DiceAttempts, entries_of};

@@ -2,8 +2,8 @@
 ghost use Rattle.std.specs.Prelude.{◌≡◌, ◌≤◌, ◌+◌, IfOk};
 ghost use Rattle.bg_auto.specs.Schedule.{IsChoice, IsScheduled, late_pick as pick_of, named_player as player_of};
 ghost use Rattle.bg_wire.specs.Entries.Codes.{first_watcher};
-ghost use Rattle.bg_world.specs.Worlds.Simulations.{memory_view};
-ghost use Rattle.bg_world.specs.Protocol.State.{most_watchers};
+ghost use Rattle.bg_protocol.specs.Worlds.Simulations.{memory_view};
+ghost use Rattle.bg_protocol.specs.Protocol.State.{most_watchers};
 
 use crate::auto_actions::auto_action;
 use bg_board::Player;

@@ -5,9 +5,9 @@ ghost use Rattle.bg_auto.specs.Attempts.{word_for};
 ghost use Rattle.bg_auto.specs.Simulating.{HappensAs, IsPrinted, IsSimFault, IsSimStart, IsSimText, Runs};
 ghost use Rattle.bg_auto.specs.Simulating.{setup_of, wants_memory as is_wanting};
 ghost use Rattle.bg_auto.specs.Words.{event_words as words_of_event};
-ghost use Rattle.bg_world.specs.Worlds.Simulations.{memory_view};
-ghost use Rattle.bg_world.specs.Worlds.Starts.{IsWorldFault};
-ghost use Rattle.bg_world.specs.Protocol.State.{IsSetup};
+ghost use Rattle.bg_protocol.specs.Worlds.Simulations.{memory_view};
+ghost use Rattle.bg_protocol.specs.Worlds.Starts.{IsWorldFault};
+ghost use Rattle.bg_protocol.specs.Protocol.State.{IsSetup};
 
 use crate::dice_attempts::DiceAttempts;
 use crate::kept_words::KeptWord;

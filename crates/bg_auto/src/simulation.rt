@@ -1,6 +1,6 @@
 //! The state of an automatic match.
 ghost use Rattle.std.specs.Prelude.{◌≤◌};
-ghost use Rattle.bg_world.specs.Protocol.State.{most_watchers};
+ghost use Rattle.bg_protocol.specs.Protocol.State.{most_watchers};
 
 use crate::dice_attempts::DiceAttempts;
 use crate::schedule::MemoryWorld;

@@ -1,8 +1,8 @@
 //! Devices of one's own for a world: mail boxes in memory that carry the datagrams, and files that
 //! keep what is saved.
 ghost use Rattle.std.specs.Prelude.{[], None, length};
-ghost use Rattle.bg_world.specs.Devices.Handed.{noted_answer};
-ghost use Rattle.bg_world.specs.Protocol.Slots.{empty_slots};
+ghost use Rattle.bg_protocol.specs.Devices.Handed.{noted_answer};
+ghost use Rattle.bg_protocol.specs.Protocol.Slots.{empty_slots};
 
 use crate::slot_files::SlotFiles;
 use arrayvec::ArrayVec;

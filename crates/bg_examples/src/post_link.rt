@@ -1,7 +1,7 @@
 //! The link of a process that runs one party: an inbox for what has come, and an outbox for what is
 //! to be sent.
 ghost use Rattle.std.specs.Prelude.{[], None, length};
-ghost use Rattle.bg_world.specs.Devices.Handed.{noted_answer};
+ghost use Rattle.bg_protocol.specs.Devices.Handed.{noted_answer};
 
 use arrayvec::ArrayVec;
 use bg_streams::History;

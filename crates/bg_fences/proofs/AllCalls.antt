@@ -13,23 +13,23 @@ use Rattle.bg_wire.specs.Runs.{IsRun}
 use Rattle.bg_wire.specs.Saved.SavedText.{SavedParts}
 use Rattle.bg_wire.specs.declared.packets.Datagram.{Datagram}
 use Rattle.bg_wire.specs.declared.packets.Packet.TheVariants as packet
-use Rattle.bg_world.specs.Promises.Agreement.{IsPrefix}
-use Rattle.bg_world.specs.Promises.Claims.{AreClaimsKept}
-use Rattle.bg_world.specs.Protocol.Datagrams.{Carries}
-use Rattle.bg_world.specs.Protocol.Frames.{SendsAtMost}
-use Rattle.bg_world.specs.Protocol.Roles.{role}
-use Rattle.bg_world.specs.Protocol.Slots.{claim_in}
-use Rattle.bg_world.specs.Protocol.State.{ProtocolState, IsSetup, protocol_start}
-use Rattle.bg_world.specs.Protocol.TickStep.{SendsOnTick, want_packet}
-use Rattle.bg_world.specs.declared.events.Event.{Event}
-use Rattle.bg_world.specs.declared.events.Event.TheVariants as events
-use Rattle.bg_world.specs.declared.events.Outcome.{Outcome}
-use Rattle.bg_world.specs.declared.events.Outcome.TheVariants as outcomes
-use Rattle.bg_world.specs.declared.roles.Role.{Role}
-use Rattle.bg_world.specs.declared.roles.Role.TheVariants.{Referee as AsReferee, Seat as AsSeat, Watcher as AsWatcher}
-use Rattle.bg_world.proofs.Protocol.Lists.{prefix_same, prefix_none}
-use Rattle.bg_world.proofs.Protocol.Rows.{take_at_follower}
-use Rattle.bg_world.proofs.Protocol.Reached.{reached, answered, no_slot_refused}
+use Rattle.bg_protocol.specs.Promises.Agreement.{IsPrefix}
+use Rattle.bg_protocol.specs.Promises.Claims.{AreClaimsKept}
+use Rattle.bg_protocol.specs.Protocol.Datagrams.{Carries}
+use Rattle.bg_protocol.specs.Protocol.Frames.{SendsAtMost}
+use Rattle.bg_protocol.specs.Protocol.Roles.{role}
+use Rattle.bg_protocol.specs.Protocol.Slots.{claim_in}
+use Rattle.bg_protocol.specs.Protocol.State.{ProtocolState, IsSetup, protocol_start}
+use Rattle.bg_protocol.specs.Protocol.TickStep.{SendsOnTick, want_packet}
+use Rattle.bg_protocol.specs.declared.events.Event.{Event}
+use Rattle.bg_protocol.specs.declared.events.Event.TheVariants as events
+use Rattle.bg_protocol.specs.declared.events.Outcome.{Outcome}
+use Rattle.bg_protocol.specs.declared.events.Outcome.TheVariants as outcomes
+use Rattle.bg_protocol.specs.declared.roles.Role.{Role}
+use Rattle.bg_protocol.specs.declared.roles.Role.TheVariants.{Referee as AsReferee, Seat as AsSeat, Watcher as AsWatcher}
+use Rattle.bg_protocol.proofs.Protocol.Lists.{prefix_same, prefix_none}
+use Rattle.bg_protocol.proofs.Protocol.Rows.{take_at_follower}
+use Rattle.bg_protocol.proofs.Protocol.Reached.{reached, answered, no_slot_refused}
 use Rattle.bg_fences.specs.SharedMatches.{WatcherProcess, SharedMatch, stored_of, seats_of, with_seats, settled, at_rest}
 use Rattle.bg_fences.specs.ProcessCalls.{ProcessBegins, ProcessTakes, ProcessSaves, ProcessTicks, ProcessCalls, WatcherBecomes}
 use Rattle.bg_fences.specs.ProcessRuns.{ProcessesRun, IsReachedByProcesses, no_process}

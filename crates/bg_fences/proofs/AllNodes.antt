@@ -13,21 +13,21 @@ use Rattle.bg_wire.specs.Entries.Codes.{first_watcher}
 use Rattle.bg_wire.specs.Saved.Restoring.{SlotsRestore}
 use Rattle.bg_wire.specs.Saved.SlotLaws.{Slots}
 use Rattle.bg_wire.specs.declared.packets.Datagram.{Datagram}
-use Rattle.bg_world.specs.Devices.LinkCalls.{FollowerTakeCalls, FollowerTickCalls}
-use Rattle.bg_world.specs.Protocol.FollowerTakeStep.{FollowerTakeStep}
-use Rattle.bg_world.specs.Protocol.Roles.{role}
-use Rattle.bg_world.specs.Protocol.State.{IsSetup, ProtocolState}
-use Rattle.bg_world.specs.Worlds.Calls.{WatcherTakes}
-use Rattle.bg_world.specs.Worlds.Views.{LinkView}
-use Rattle.bg_world.specs.Worlds.WorldState.{Restorable, KeepsWhatWasShown}
-use Rattle.bg_world.specs.declared.events.Event.{Event}
-use Rattle.bg_world.specs.declared.events.Event.TheVariants as events
-use Rattle.bg_world.specs.declared.events.Outcome.{Outcome}
-use Rattle.bg_world.specs.declared.roles.Role.{Role}
-use Rattle.bg_world.specs.declared.roles.Role.TheVariants as roles
-use Rattle.bg_world.proofs.Protocol.EarlyEntries.{none_kept}
-use Rattle.bg_world.proofs.Protocol.Rows.{take_at_follower}
-use Rattle.bg_world.proofs.Steps.LearnRows.{watcher_takes}
+use Rattle.bg_protocol.specs.Devices.LinkCalls.{FollowerTakeCalls, FollowerTickCalls}
+use Rattle.bg_protocol.specs.Protocol.FollowerTakeStep.{FollowerTakeStep}
+use Rattle.bg_protocol.specs.Protocol.Roles.{role}
+use Rattle.bg_protocol.specs.Protocol.State.{IsSetup, ProtocolState}
+use Rattle.bg_protocol.specs.Worlds.Calls.{WatcherTakes}
+use Rattle.bg_protocol.specs.Worlds.Views.{LinkView}
+use Rattle.bg_protocol.specs.Worlds.WorldState.{Restorable, KeepsWhatWasShown}
+use Rattle.bg_protocol.specs.declared.events.Event.{Event}
+use Rattle.bg_protocol.specs.declared.events.Event.TheVariants as events
+use Rattle.bg_protocol.specs.declared.events.Outcome.{Outcome}
+use Rattle.bg_protocol.specs.declared.roles.Role.{Role}
+use Rattle.bg_protocol.specs.declared.roles.Role.TheVariants as roles
+use Rattle.bg_protocol.proofs.Protocol.EarlyEntries.{none_kept}
+use Rattle.bg_protocol.proofs.Protocol.Rows.{take_at_follower}
+use Rattle.bg_protocol.proofs.Steps.LearnRows.{watcher_takes}
 use Rattle.bg_fences.specs.SharedMatches.{RefereeProcess, SeatProcess, Becomes, at_rest}
 use Rattle.bg_fences.specs.FencedPromises.{FencedHeadline, HoldsOfNewest}
 use Rattle.bg_fences.specs.ProcessRuns.{no_process}

@@ -3,16 +3,16 @@ use Rattle.std.specs.Prelude.{◌≡◌, Result, Ok}
 use Rattle.std.proofs.Common.{refl, subst}
 use Rattle.bg_party.specs.Views.{seat_after_save}
 use Rattle.bg_referee.specs.Referee.{referee_after_save}
-use Rattle.bg_world.specs.Devices.DeviceCalls.{WritesOnce}
-use Rattle.bg_world.specs.Devices.KeeperCalls.{BeginsSave}
-use Rattle.bg_world.specs.Worlds.Calls.{referee_parts, seat_parts}
-use Rattle.bg_world.specs.Worlds.Nodes.{RefereeNodeEndsSave, RefereeNodeSaves, RefereeNodeView}
-use Rattle.bg_world.specs.Worlds.Nodes.{SeatNodeEndsSave, SeatNodeSaves, SeatNodeView}
-use Rattle.bg_world.specs.Worlds.Views.{KeeperView}
-use Rattle.bg_world.specs.declared.devices.DeviceFault.{DeviceFault}
-use Rattle.bg_world.specs.declared.events.Outcome.{Outcome}
-use Rattle.bg_world.specs.declared.nodes.saves.Save.{Save}
-use Rattle.bg_world.proofs.TwoSteps.{two_steps}
+use Rattle.bg_protocol.specs.Devices.DeviceCalls.{WritesOnce}
+use Rattle.bg_protocol.specs.Devices.KeeperCalls.{BeginsSave}
+use Rattle.bg_protocol.specs.Worlds.Calls.{referee_parts, seat_parts}
+use Rattle.bg_protocol.specs.Worlds.Nodes.{RefereeNodeEndsSave, RefereeNodeSaves, RefereeNodeView}
+use Rattle.bg_protocol.specs.Worlds.Nodes.{SeatNodeEndsSave, SeatNodeSaves, SeatNodeView}
+use Rattle.bg_protocol.specs.Worlds.Views.{KeeperView}
+use Rattle.bg_protocol.specs.declared.devices.DeviceFault.{DeviceFault}
+use Rattle.bg_protocol.specs.declared.events.Outcome.{Outcome}
+use Rattle.bg_protocol.specs.declared.nodes.saves.Save.{Save}
+use Rattle.bg_protocol.proofs.TwoSteps.{two_steps}
 
 module _ (honest : Type 0) (old new : KeeperView) (save : Save) (answer : Result (Unit {0}) DeviceFault) (o : Outcome) where
   pub referee_saves : (node begun after : RefereeNodeView) → begun ≡ node → BeginsSave referee_parts node.core (Ok save)

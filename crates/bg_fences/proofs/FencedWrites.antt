@@ -11,10 +11,10 @@ use Rattle.bg_wire.specs.declared.saves.slots.Slot.{Slot}
 use Rattle.bg_wire.specs.declared.saves.slots.Slot.TheVariants.{Zero, One}
 use Rattle.bg_wire.proofs.OfSaves.OneText.{loads_once, one_saved, restores_once}
 use Rattle.bg_wire.proofs.OfSaves.SavedLaws.{written_is_saved}
-use Rattle.bg_world.specs.Devices.Honesty.{CountsFailed, HasCause, LeavesTorn, Writes}
-use Rattle.bg_world.specs.declared.devices.DeviceFault.{DeviceFault}
-use Rattle.bg_world.specs.declared.devices.DeviceFault.TheVariants.{Failed, Memory}
-use Rattle.bg_world.specs.declared.nodes.saves.Save.{Save}
+use Rattle.bg_protocol.specs.Devices.Honesty.{CountsFailed, HasCause, LeavesTorn, Writes}
+use Rattle.bg_protocol.specs.declared.devices.DeviceFault.{DeviceFault}
+use Rattle.bg_protocol.specs.declared.devices.DeviceFault.TheVariants.{Failed, Memory}
+use Rattle.bg_protocol.specs.declared.nodes.saves.Save.{Save}
 use Rattle.bg_fences.specs.FencedWrites.{IsBegunSave, IsNextText, IsWriteFenced, WritesNext}
 use Rattle.bg_fences.specs.ToldNumbers.{TellsNewest, TellsNumber}
 

@@ -11,13 +11,13 @@ use Rattle.bg_party.specs.Claims.{claim_number}
 use Rattle.bg_wire.specs.Saved.SavedText.{SavedParts}
 use Rattle.bg_wire.specs.Saved.SlotLaws.{save_in}
 use Rattle.bg_wire.specs.declared.packets.Datagram.{Datagram}
-use Rattle.bg_world.specs.Promises.Agreement.{IsPrefix}
-use Rattle.bg_world.specs.Promises.Claims.{AreClaimsKept}
-use Rattle.bg_world.specs.Protocol.Datagrams.{Claimed}
-use Rattle.bg_world.specs.Protocol.Slots.{claim_in, empty_slots}
-use Rattle.bg_world.specs.Protocol.State.{saved_log}
-use Rattle.bg_world.proofs.Protocol.Invariant.{Inv, SeatOk, RefereeOk, LegalClaim, LegalClaim-more, SeatOk-more}
-use Rattle.bg_world.proofs.Protocol.Lists.{prefix_trans}
+use Rattle.bg_protocol.specs.Promises.Agreement.{IsPrefix}
+use Rattle.bg_protocol.specs.Promises.Claims.{AreClaimsKept}
+use Rattle.bg_protocol.specs.Protocol.Datagrams.{Claimed}
+use Rattle.bg_protocol.specs.Protocol.Slots.{claim_in, empty_slots}
+use Rattle.bg_protocol.specs.Protocol.State.{saved_log}
+use Rattle.bg_protocol.proofs.Protocol.Invariant.{Inv, SeatOk, RefereeOk, LegalClaim, LegalClaim-more, SeatOk-more}
+use Rattle.bg_protocol.proofs.Protocol.Lists.{prefix_trans}
 use Rattle.bg_fences.specs.SharedMatches.{RefereeProcess, SeatProcess, WatcherProcess, Stored, SharedMatch, stored_of, seats_of, settled}
 use Rattle.bg_fences.specs.SharedMatches.{at_rest, begun_referee, begun_seat, referee_as_seen, seat_as_seen}
 use Rattle.bg_fences.specs.ProcessCalls.{IsNewest}

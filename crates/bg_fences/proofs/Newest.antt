@@ -5,14 +5,14 @@ use Rattle.bg_board.specs.declared.players.Player.{Player}
 use Rattle.bg_board.specs.declared.players.Player.TheVariants.{X, O}
 use Rattle.bg_wire.specs.Parties.{party_of}
 use Rattle.bg_wire.proofs.OfSaves.SlotTurns.{gives_back}
-use Rattle.bg_world.specs.declared.roles.Role.{Role}
-use Rattle.bg_world.specs.declared.roles.Role.TheVariants.{Referee as AsReferee, Seat as AsSeat, Watcher as AsWatcher}
-use Rattle.bg_world.specs.Promises.GivenBack.{AreSlotsGivenBack}
-use Rattle.bg_world.specs.Promises.Refusals.{AreNoEntriesRefused}
-use Rattle.bg_world.specs.Protocol.Roles.{role}
-use Rattle.bg_world.specs.Protocol.State.{ProtocolState, SeatState, log_as, restored_seat, seat_in, with_seat}
-use Rattle.bg_world.proofs.Protocol.Invariant.{Inv, seat_steps}
-use Rattle.bg_world.proofs.Protocol.Reached.{agreement, headline, no_more, no_packet_refused, no_slot_refused, saves_survive}
+use Rattle.bg_protocol.specs.declared.roles.Role.{Role}
+use Rattle.bg_protocol.specs.declared.roles.Role.TheVariants.{Referee as AsReferee, Seat as AsSeat, Watcher as AsWatcher}
+use Rattle.bg_protocol.specs.Promises.GivenBack.{AreSlotsGivenBack}
+use Rattle.bg_protocol.specs.Promises.Refusals.{AreNoEntriesRefused}
+use Rattle.bg_protocol.specs.Protocol.Roles.{role}
+use Rattle.bg_protocol.specs.Protocol.State.{ProtocolState, SeatState, log_as, restored_seat, seat_in, with_seat}
+use Rattle.bg_protocol.proofs.Protocol.Invariant.{Inv, seat_steps}
+use Rattle.bg_protocol.proofs.Protocol.Reached.{agreement, headline, no_more, no_packet_refused, no_slot_refused, saves_survive}
 use Rattle.bg_fences.specs.FencedPromises.{HoldsOfNewest, HoldsOfOne}
 use Rattle.bg_fences.specs.SharedMatches.{SeatProcess, SharedMatch, at_rest, seats_of, seen_by_referee, seen_by_seat, stored_of}
 use Rattle.bg_fences.proofs.Invariant.{Earlier, FencedInv, ready}

@@ -14,16 +14,16 @@ use Rattle.bg_wire.specs.Saved.Restoring.{SlotsRestore}
 use Rattle.bg_wire.specs.Saved.SavedText.{SavedParts}
 use Rattle.bg_wire.specs.Saved.SlotLaws.{Slots}
 use Rattle.bg_wire.specs.declared.packets.Datagram.{Datagram}
-use Rattle.bg_world.specs.Protocol.SaveStep.{to_save_referee}
-use Rattle.bg_world.specs.Protocol.State.{restored_referee}
-use Rattle.bg_world.specs.Worlds.Nodes.{RefereeNodeDues, RefereeNodeRestarts, RefereeNodeSaves, RefereeNodeTakes, RefereeNodeTicks, RefereeNodeView}
-use Rattle.bg_world.specs.Worlds.Views.{KeeperView, LinkView}
-use Rattle.bg_world.specs.Worlds.WorldState.{Restorable}
-use Rattle.bg_world.specs.declared.events.Event.TheVariants as events
-use Rattle.bg_world.specs.declared.events.Outcome.{Outcome}
-use Rattle.bg_world.specs.declared.events.Outcome.TheVariants as outcomes
-use Rattle.bg_world.proofs.Protocol.EarlyEntries.{shown_more}
-use Rattle.bg_world.proofs.Protocol.Growth.{step_grows}
+use Rattle.bg_protocol.specs.Protocol.SaveStep.{to_save_referee}
+use Rattle.bg_protocol.specs.Protocol.State.{restored_referee}
+use Rattle.bg_protocol.specs.Worlds.Nodes.{RefereeNodeDues, RefereeNodeRestarts, RefereeNodeSaves, RefereeNodeTakes, RefereeNodeTicks, RefereeNodeView}
+use Rattle.bg_protocol.specs.Worlds.Views.{KeeperView, LinkView}
+use Rattle.bg_protocol.specs.Worlds.WorldState.{Restorable}
+use Rattle.bg_protocol.specs.declared.events.Event.TheVariants as events
+use Rattle.bg_protocol.specs.declared.events.Outcome.{Outcome}
+use Rattle.bg_protocol.specs.declared.events.Outcome.TheVariants as outcomes
+use Rattle.bg_protocol.proofs.Protocol.EarlyEntries.{shown_more}
+use Rattle.bg_protocol.proofs.Protocol.Growth.{step_grows}
 use Rattle.bg_fences.specs.SharedMatches.{SharedMatch, Becomes, seen_by_referee}
 use Rattle.bg_fences.specs.ProcessCalls.{RefereeGoes}
 use Rattle.bg_fences.specs.SharedNodes.{SharedNodes, IsFencedAt, cores_of, all_parties, referee_number, held_by, stored_in, process_of_referee, processes_of}

@@ -14,16 +14,16 @@ use Rattle.bg_wire.specs.Saved.SlotLaws.{Slots, bytes_in}
 use Rattle.bg_wire.specs.declared.packets.Datagram.{Datagram}
 use Rattle.bg_wire.specs.declared.saves.slots.Slot.{Slot}
 use Rattle.bg_wire.specs.declared.saves.slots.Slot.TheVariants.{Zero, One}
-use Rattle.bg_world.proofs.Protocol.Saving.{SlotsOk}
-use Rattle.bg_world.specs.Protocol.Roles.{role}
-use Rattle.bg_world.specs.Protocol.SaveStep.{to_save_referee}
-use Rattle.bg_world.specs.Worlds.Nodes.{RefereeNodeSaves, RefereeNodeView, SeatNodeSaves, SeatNodeView}
-use Rattle.bg_world.specs.Worlds.Views.{KeeperView}
-use Rattle.bg_world.specs.declared.events.Event.{Event}
-use Rattle.bg_world.specs.declared.events.Event.TheVariants as events
-use Rattle.bg_world.specs.declared.events.Outcome.{Outcome}
-use Rattle.bg_world.specs.declared.roles.Role.{Role}
-use Rattle.bg_world.specs.declared.roles.Role.TheVariants as roles
+use Rattle.bg_protocol.proofs.Protocol.Saving.{SlotsOk}
+use Rattle.bg_protocol.specs.Protocol.Roles.{role}
+use Rattle.bg_protocol.specs.Protocol.SaveStep.{to_save_referee}
+use Rattle.bg_protocol.specs.Worlds.Nodes.{RefereeNodeSaves, RefereeNodeView, SeatNodeSaves, SeatNodeView}
+use Rattle.bg_protocol.specs.Worlds.Views.{KeeperView}
+use Rattle.bg_protocol.specs.declared.events.Event.{Event}
+use Rattle.bg_protocol.specs.declared.events.Event.TheVariants as events
+use Rattle.bg_protocol.specs.declared.events.Outcome.{Outcome}
+use Rattle.bg_protocol.specs.declared.roles.Role.{Role}
+use Rattle.bg_protocol.specs.declared.roles.Role.TheVariants as roles
 use Rattle.bg_fences.specs.NodeActs.{NodeActs, NodeRestarts, NodeSaves, NodeTakes, NodeTicks, no_node_begun, referee_with, seat_with}
 use Rattle.bg_fences.specs.SharedMatches.{Becomes, Stored, stored_of}
 use Rattle.bg_fences.specs.SharedNodes.{IsFencedAt, SharedNodes, cores_of, referee_number, seat_number, slots_of, with_seat_nodes}

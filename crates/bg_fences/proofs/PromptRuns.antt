@@ -8,15 +8,15 @@ use Rattle.bg_party.specs.Views.{SeatView}
 use Rattle.bg_referee.specs.Referee.{RefereeView}
 use Rattle.bg_wire.specs.Parties.{party_of}
 use Rattle.bg_wire.specs.Saved.SlotLaws.{Slots}
-use Rattle.bg_world.specs.Protocol.Roles.{role}
-use Rattle.bg_world.specs.Worlds.Nodes.{RefereeNodeRestarts, RefereeNodeView, SeatNodeRestarts, SeatNodeView}
-use Rattle.bg_world.specs.Worlds.Views.{KeeperView}
-use Rattle.bg_world.specs.declared.events.Event.{Event}
-use Rattle.bg_world.specs.declared.events.Event.TheVariants as events
-use Rattle.bg_world.specs.declared.events.Outcome.{Outcome}
-use Rattle.bg_world.specs.declared.events.Outcome.TheVariants as outcomes
-use Rattle.bg_world.specs.declared.roles.Role.{Role}
-use Rattle.bg_world.specs.declared.roles.Role.TheVariants.{Referee as AsReferee, Seat as AsSeat, Watcher as AsWatcher}
+use Rattle.bg_protocol.specs.Protocol.Roles.{role}
+use Rattle.bg_protocol.specs.Worlds.Nodes.{RefereeNodeRestarts, RefereeNodeView, SeatNodeRestarts, SeatNodeView}
+use Rattle.bg_protocol.specs.Worlds.Views.{KeeperView}
+use Rattle.bg_protocol.specs.declared.events.Event.{Event}
+use Rattle.bg_protocol.specs.declared.events.Event.TheVariants as events
+use Rattle.bg_protocol.specs.declared.events.Outcome.{Outcome}
+use Rattle.bg_protocol.specs.declared.events.Outcome.TheVariants as outcomes
+use Rattle.bg_protocol.specs.declared.roles.Role.{Role}
+use Rattle.bg_protocol.specs.declared.roles.Role.TheVariants.{Referee as AsReferee, Seat as AsSeat, Watcher as AsWatcher}
 use Rattle.bg_fences.specs.NodeActs.{NodeRestarts, referee_with, seat_with}
 use Rattle.bg_fences.specs.ProcessCalls.{ProcessBegins, ProcessCalls}
 use Rattle.bg_fences.specs.ProcessRuns.{ProcessesRun}

@@ -14,24 +14,24 @@ use Rattle.bg_wire.specs.Saved.SlotLaws.{save_in}
 use Rattle.bg_wire.specs.declared.packets.Datagram.{Datagram}
 use Rattle.bg_wire.specs.declared.packets.Packet.{Packet}
 use Rattle.bg_wire.specs.declared.packets.Packet.TheVariants as packet
-use Rattle.bg_world.specs.Promises.Agreement.{IsPrefix}
-use Rattle.bg_world.specs.Promises.Refusals.{IsSound}
-use Rattle.bg_world.specs.Protocol.Datagrams.{WasSent}
-use Rattle.bg_world.specs.Protocol.DueStep.{DueStep, with_entry}
-use Rattle.bg_world.specs.Protocol.Frames.{SendsAtMost}
-use Rattle.bg_world.specs.Protocol.RefereeTakeStep.{IsOfSaved, ShowsSaved, ReplyStep, RefereeTakeStep}
-use Rattle.bg_world.specs.Protocol.State.{restored_referee}
-use Rattle.bg_world.specs.Protocol.SaveStep.{to_save_referee, RefereeSaveStep}
-use Rattle.bg_world.specs.Protocol.Slots.{entries_in, next_number, SaveWritten, SaveTorn}
-use Rattle.bg_world.specs.Protocol.State.{ProtocolState, RefereeState, Exists}
-use Rattle.bg_world.specs.Protocol.TickStep.{SendsOnTick}
-use Rattle.bg_world.specs.declared.events.Event.TheVariants as events
-use Rattle.bg_world.specs.declared.events.Outcome.{Outcome}
-use Rattle.bg_world.specs.declared.events.Outcome.TheVariants as outcomes
-use Rattle.bg_world.proofs.Protocol.Invariant.{Inv, RefereeOk, referee_steps}
-use Rattle.bg_world.proofs.Protocol.Lists.{prefix_same, prefix_take, prefix_trans, prefix_run}
-use Rattle.bg_world.proofs.Protocol.Rows.{step_keeps, referee_of}
-use Rattle.bg_world.proofs.Protocol.Saving.{after_whole, after_torn}
+use Rattle.bg_protocol.specs.Promises.Agreement.{IsPrefix}
+use Rattle.bg_protocol.specs.Promises.Refusals.{IsSound}
+use Rattle.bg_protocol.specs.Protocol.Datagrams.{WasSent}
+use Rattle.bg_protocol.specs.Protocol.DueStep.{DueStep, with_entry}
+use Rattle.bg_protocol.specs.Protocol.Frames.{SendsAtMost}
+use Rattle.bg_protocol.specs.Protocol.RefereeTakeStep.{IsOfSaved, ShowsSaved, ReplyStep, RefereeTakeStep}
+use Rattle.bg_protocol.specs.Protocol.State.{restored_referee}
+use Rattle.bg_protocol.specs.Protocol.SaveStep.{to_save_referee, RefereeSaveStep}
+use Rattle.bg_protocol.specs.Protocol.Slots.{entries_in, next_number, SaveWritten, SaveTorn}
+use Rattle.bg_protocol.specs.Protocol.State.{ProtocolState, RefereeState, Exists}
+use Rattle.bg_protocol.specs.Protocol.TickStep.{SendsOnTick}
+use Rattle.bg_protocol.specs.declared.events.Event.TheVariants as events
+use Rattle.bg_protocol.specs.declared.events.Outcome.{Outcome}
+use Rattle.bg_protocol.specs.declared.events.Outcome.TheVariants as outcomes
+use Rattle.bg_protocol.proofs.Protocol.Invariant.{Inv, RefereeOk, referee_steps}
+use Rattle.bg_protocol.proofs.Protocol.Lists.{prefix_same, prefix_take, prefix_trans, prefix_run}
+use Rattle.bg_protocol.proofs.Protocol.Rows.{step_keeps, referee_of}
+use Rattle.bg_protocol.proofs.Protocol.Saving.{after_whole, after_torn}
 use Rattle.bg_fences.specs.SharedMatches.{RefereeProcess, Stored, SharedMatch, stored_of, seats_of, settled, at_rest, seen_by_referee, referee_as_seen, referee_process, Becomes}
 use Rattle.bg_fences.specs.ProcessCalls.{IsNewest, RefereeGoes, RefereeSaves}
 use Rattle.bg_fences.proofs.Lists.{was_in, each_becomes, of_one, none_in}

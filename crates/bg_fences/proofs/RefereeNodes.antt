@@ -34,31 +34,31 @@ use Rattle.bg_wire.specs.declared.packets.Packet.TheVariants as packet
 use Rattle.bg_wire.specs.declared.saves.Saved.{Saved}
 use Rattle.bg_wire.specs.declared.saves.slots.Slot.{Slot}
 use Rattle.bg_wire.proofs.OfSaves.OneText.{restores_once}
-use Rattle.bg_world.specs.Devices.DeviceCalls.{Posts, Receives, datagram_of, link_outcome}
-use Rattle.bg_world.specs.Devices.Honesty.{Sends as LinkSends}
-use Rattle.bg_world.specs.Devices.KeeperCalls.{SaveCallsAt, SaveGoesOn, SaveTold, RestartCallsAt, ComesUp}
-use Rattle.bg_world.specs.Devices.LinkCalls.{AnswerCalls, ComesTo, RefereeHandles, RefereeTakeCalls, RefereeTickCalls}
-use Rattle.bg_world.specs.Promises.Refusals.{IsSound}
-use Rattle.bg_world.specs.Protocol.Datagrams.{WasSent}
-use Rattle.bg_world.specs.Protocol.DueStep.{DueStep, with_entry}
-use Rattle.bg_world.specs.Protocol.Frames.{SendsAtMost}
-use Rattle.bg_world.specs.Protocol.RefereeTakeStep.{AcceptsNone, IsOfSaved, RefereeTakeStep, ReplyStep, ShowsSaved}
-use Rattle.bg_world.specs.Protocol.SaveStep.{to_save_referee}
-use Rattle.bg_world.specs.Protocol.Slots.{next_number, SaveWritten, SaveTorn}
-use Rattle.bg_world.specs.Protocol.State.{ProtocolState, Exists}
-use Rattle.bg_world.specs.Protocol.TickStep.{SendsOnTick}
-use Rattle.bg_world.specs.Worlds.Calls.{referee_parts}
-use Rattle.bg_world.specs.Worlds.Views.{KeeperView, LinkView}
-use Rattle.bg_world.specs.Worlds.WorldState.{IsLogOf}
-use Rattle.bg_world.specs.declared.devices.DeviceFault.{DeviceFault}
-use Rattle.bg_world.specs.declared.devices.DeviceFault.TheVariants as faults
-use Rattle.bg_world.specs.declared.events.Outcome.{Outcome}
-use Rattle.bg_world.specs.declared.events.Outcome.TheVariants as outcomes
-use Rattle.bg_world.proofs.Protocol.Invariant.{Inv}
-use Rattle.bg_world.proofs.Protocol.Saving.{SlotsOk}
-use Rattle.bg_world.proofs.Steps.Hands.{IsEmptyHand, fault, memory, nothing, no_packet, empty_hand, carries, grows_none, grows_one}
-use Rattle.bg_world.proofs.Steps.SaveCases.{IsSaved, written, torn, spent, no_memory as save_no_memory, is_saved}
-use Rattle.bg_world.proofs.Steps.SendCases.{Went, sends_all, ticks_row}
+use Rattle.bg_protocol.specs.Devices.DeviceCalls.{Posts, Receives, datagram_of, link_outcome}
+use Rattle.bg_protocol.specs.Devices.Honesty.{Sends as LinkSends}
+use Rattle.bg_protocol.specs.Devices.KeeperCalls.{SaveCallsAt, SaveGoesOn, SaveTold, RestartCallsAt, ComesUp}
+use Rattle.bg_protocol.specs.Devices.LinkCalls.{AnswerCalls, ComesTo, RefereeHandles, RefereeTakeCalls, RefereeTickCalls}
+use Rattle.bg_protocol.specs.Promises.Refusals.{IsSound}
+use Rattle.bg_protocol.specs.Protocol.Datagrams.{WasSent}
+use Rattle.bg_protocol.specs.Protocol.DueStep.{DueStep, with_entry}
+use Rattle.bg_protocol.specs.Protocol.Frames.{SendsAtMost}
+use Rattle.bg_protocol.specs.Protocol.RefereeTakeStep.{AcceptsNone, IsOfSaved, RefereeTakeStep, ReplyStep, ShowsSaved}
+use Rattle.bg_protocol.specs.Protocol.SaveStep.{to_save_referee}
+use Rattle.bg_protocol.specs.Protocol.Slots.{next_number, SaveWritten, SaveTorn}
+use Rattle.bg_protocol.specs.Protocol.State.{ProtocolState, Exists}
+use Rattle.bg_protocol.specs.Protocol.TickStep.{SendsOnTick}
+use Rattle.bg_protocol.specs.Worlds.Calls.{referee_parts}
+use Rattle.bg_protocol.specs.Worlds.Views.{KeeperView, LinkView}
+use Rattle.bg_protocol.specs.Worlds.WorldState.{IsLogOf}
+use Rattle.bg_protocol.specs.declared.devices.DeviceFault.{DeviceFault}
+use Rattle.bg_protocol.specs.declared.devices.DeviceFault.TheVariants as faults
+use Rattle.bg_protocol.specs.declared.events.Outcome.{Outcome}
+use Rattle.bg_protocol.specs.declared.events.Outcome.TheVariants as outcomes
+use Rattle.bg_protocol.proofs.Protocol.Invariant.{Inv}
+use Rattle.bg_protocol.proofs.Protocol.Saving.{SlotsOk}
+use Rattle.bg_protocol.proofs.Steps.Hands.{IsEmptyHand, fault, memory, nothing, no_packet, empty_hand, carries, grows_none, grows_one}
+use Rattle.bg_protocol.proofs.Steps.SaveCases.{IsSaved, written, torn, spent, no_memory as save_no_memory, is_saved}
+use Rattle.bg_protocol.proofs.Steps.SendCases.{Went, sends_all, ticks_row}
 use Rattle.bg_fences.specs.SharedMatches.{SharedMatch, at_rest, seen_by_referee}
 use Rattle.bg_fences.specs.ProcessCalls.{IsNewest}
 use Rattle.bg_fences.specs.SharedNodes.{IsFenced, IsNextAt, IsRefused, process_of_referee}

@@ -17,24 +17,24 @@ use Rattle.bg_wire.specs.Saved.SavedText.{SavedParts}
 use Rattle.bg_wire.specs.Saved.SlotLaws.{Slots, save_in}
 use Rattle.bg_wire.specs.declared.packets.Datagram.{Datagram}
 use Rattle.bg_wire.specs.declared.packets.Packet.TheVariants as packet
-use Rattle.bg_world.specs.Promises.Agreement.{IsPrefix}
-use Rattle.bg_world.specs.Promises.Refusals.{IsLegalClaim}
-use Rattle.bg_world.specs.Protocol.ChooseStep.{ChooseStep}
-use Rattle.bg_world.specs.Protocol.Datagrams.{Carries, Claimed}
-use Rattle.bg_world.specs.Protocol.FollowerTakeStep.{FollowerTakeStep}
-use Rattle.bg_world.specs.Protocol.Frames.{SendsAtMost}
-use Rattle.bg_world.specs.Protocol.State.{restored_seat}
-use Rattle.bg_world.specs.Protocol.SaveStep.{SeatSaveStep, to_save_seat}
-use Rattle.bg_world.specs.Protocol.Slots.{claim_in, next_number, SaveWritten, SaveTorn}
-use Rattle.bg_world.specs.Protocol.State.{ProtocolState, SeatState, Exists}
-use Rattle.bg_world.specs.Protocol.TickStep.{SendsOnTick, want_packet, seat_packet}
-use Rattle.bg_world.specs.declared.events.Event.TheVariants as events
-use Rattle.bg_world.specs.declared.events.Outcome.{Outcome}
-use Rattle.bg_world.specs.declared.events.Outcome.TheVariants as outcomes
-use Rattle.bg_world.proofs.Protocol.Invariant.{Inv, SeatOk, LegalClaim, seat_steps}
-use Rattle.bg_world.proofs.Protocol.Lists.{prefix_length, prefix_whole}
-use Rattle.bg_world.proofs.Protocol.Rows.{same_number, step_keeps, take_at_follower}
-use Rattle.bg_world.proofs.Protocol.Saving.{SlotsOk, after_whole, after_torn}
+use Rattle.bg_protocol.specs.Promises.Agreement.{IsPrefix}
+use Rattle.bg_protocol.specs.Promises.Refusals.{IsLegalClaim}
+use Rattle.bg_protocol.specs.Protocol.ChooseStep.{ChooseStep}
+use Rattle.bg_protocol.specs.Protocol.Datagrams.{Carries, Claimed}
+use Rattle.bg_protocol.specs.Protocol.FollowerTakeStep.{FollowerTakeStep}
+use Rattle.bg_protocol.specs.Protocol.Frames.{SendsAtMost}
+use Rattle.bg_protocol.specs.Protocol.State.{restored_seat}
+use Rattle.bg_protocol.specs.Protocol.SaveStep.{SeatSaveStep, to_save_seat}
+use Rattle.bg_protocol.specs.Protocol.Slots.{claim_in, next_number, SaveWritten, SaveTorn}
+use Rattle.bg_protocol.specs.Protocol.State.{ProtocolState, SeatState, Exists}
+use Rattle.bg_protocol.specs.Protocol.TickStep.{SendsOnTick, want_packet, seat_packet}
+use Rattle.bg_protocol.specs.declared.events.Event.TheVariants as events
+use Rattle.bg_protocol.specs.declared.events.Outcome.{Outcome}
+use Rattle.bg_protocol.specs.declared.events.Outcome.TheVariants as outcomes
+use Rattle.bg_protocol.proofs.Protocol.Invariant.{Inv, SeatOk, LegalClaim, seat_steps}
+use Rattle.bg_protocol.proofs.Protocol.Lists.{prefix_length, prefix_whole}
+use Rattle.bg_protocol.proofs.Protocol.Rows.{same_number, step_keeps, take_at_follower}
+use Rattle.bg_protocol.proofs.Protocol.Saving.{SlotsOk, after_whole, after_torn}
 use Rattle.bg_fences.specs.SharedMatches.{SeatProcess, Stored, SharedMatch, stored_of, seats_of, with_stored, with_seats, settled, at_rest, seen_by_seat, seat_as_seen, seat_process, Becomes}
 use Rattle.bg_fences.specs.ProcessCalls.{IsNewest, SeatGoes, SeatSaves}
 use Rattle.bg_fences.proofs.Lists.{was_in, each_becomes, of_one, none_in}

@@ -12,18 +12,18 @@ use Rattle.bg_wire.specs.Saved.Restoring.{SlotsRestore}
 use Rattle.bg_wire.specs.Saved.SavedText.{SavedParts}
 use Rattle.bg_wire.specs.Saved.SlotLaws.{Slots}
 use Rattle.bg_wire.specs.declared.packets.Datagram.{Datagram}
-use Rattle.bg_world.specs.Protocol.FollowerTakeStep.{FollowerTakeStep}
-use Rattle.bg_world.specs.Protocol.State.{restored_seat}
-use Rattle.bg_world.specs.Protocol.Slots.{next_number}
-use Rattle.bg_world.specs.Protocol.State.{ProtocolState, SeatState}
-use Rattle.bg_world.specs.Protocol.TickStep.{SendsOnTick}
-use Rattle.bg_world.specs.Worlds.Nodes.{SeatNodeChooses, SeatNodeRestarts, SeatNodeSaves, SeatNodeTakes, SeatNodeTicks, SeatNodeView}
-use Rattle.bg_world.specs.Worlds.Views.{KeeperView, LinkView}
-use Rattle.bg_world.specs.Worlds.WorldState.{KeepsWhatWasShown}
-use Rattle.bg_world.specs.declared.events.Outcome.{Outcome}
-use Rattle.bg_world.specs.declared.events.Outcome.TheVariants as outcomes
-use Rattle.bg_world.proofs.Protocol.Saving.{SlotsOk}
-use Rattle.bg_world.proofs.Steps.LearnRows.{seat_takes}
+use Rattle.bg_protocol.specs.Protocol.FollowerTakeStep.{FollowerTakeStep}
+use Rattle.bg_protocol.specs.Protocol.State.{restored_seat}
+use Rattle.bg_protocol.specs.Protocol.Slots.{next_number}
+use Rattle.bg_protocol.specs.Protocol.State.{ProtocolState, SeatState}
+use Rattle.bg_protocol.specs.Protocol.TickStep.{SendsOnTick}
+use Rattle.bg_protocol.specs.Worlds.Nodes.{SeatNodeChooses, SeatNodeRestarts, SeatNodeSaves, SeatNodeTakes, SeatNodeTicks, SeatNodeView}
+use Rattle.bg_protocol.specs.Worlds.Views.{KeeperView, LinkView}
+use Rattle.bg_protocol.specs.Worlds.WorldState.{KeepsWhatWasShown}
+use Rattle.bg_protocol.specs.declared.events.Outcome.{Outcome}
+use Rattle.bg_protocol.specs.declared.events.Outcome.TheVariants as outcomes
+use Rattle.bg_protocol.proofs.Protocol.Saving.{SlotsOk}
+use Rattle.bg_protocol.proofs.Steps.LearnRows.{seat_takes}
 use Rattle.bg_fences.specs.SharedMatches.{SeatProcess, Stored, Becomes, seen_by_seat, seat_as_seen, stored_of, seats_of, with_stored, with_seats}
 use Rattle.bg_fences.specs.ProcessCalls.{IsNewest}
 use Rattle.bg_fences.specs.SharedNodes.{SharedNodes, IsFencedAt, cores_of, slots_of, with_seat_nodes, all_parties, seat_number, held_by, stored_in, process_of_seat}

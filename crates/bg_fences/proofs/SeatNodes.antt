@@ -25,26 +25,26 @@ use Rattle.bg_wire.specs.declared.packets.Packet.{Packet}
 use Rattle.bg_wire.specs.declared.saves.Saved.{Saved}
 use Rattle.bg_wire.specs.declared.saves.slots.Slot.{Slot}
 use Rattle.bg_wire.proofs.OfSaves.OneText.{restores_once}
-use Rattle.bg_world.specs.Devices.DeviceCalls.{datagram_of}
-use Rattle.bg_world.specs.Devices.KeeperCalls.{SaveCallsAt, SaveGoesOn, SaveTold, RestartCallsAt, ComesUp}
-use Rattle.bg_world.specs.Devices.LinkCalls.{FollowerTickCalls, SendCalls, to_referee}
-use Rattle.bg_world.specs.Protocol.ChooseStep.{ChooseStep}
-use Rattle.bg_world.specs.Protocol.Datagrams.{Carries}
-use Rattle.bg_world.specs.Protocol.SaveStep.{to_save_seat}
-use Rattle.bg_world.specs.Protocol.Slots.{next_number, SaveWritten, SaveTorn}
-use Rattle.bg_world.specs.Protocol.State.{ProtocolState}
-use Rattle.bg_world.specs.Protocol.TickStep.{SendsOnTick, want_packet, seat_packet}
-use Rattle.bg_world.specs.Worlds.Calls.{seat_parts}
-use Rattle.bg_world.specs.Worlds.Views.{KeeperView, LinkView}
-use Rattle.bg_world.specs.Worlds.WorldState.{IsLogOf, KeepsWhatWasShown}
-use Rattle.bg_world.specs.declared.devices.DeviceFault.{DeviceFault}
-use Rattle.bg_world.specs.declared.events.Outcome.{Outcome}
-use Rattle.bg_world.specs.declared.events.Outcome.TheVariants as outcomes
-use Rattle.bg_world.proofs.Protocol.EarlyEntries.{none_kept}
-use Rattle.bg_world.proofs.Protocol.Saving.{SlotsOk}
-use Rattle.bg_world.proofs.Steps.Hands.{carries}
-use Rattle.bg_world.proofs.Steps.SaveCases.{IsSaved, written, torn, spent, no_memory as save_no_memory, is_saved}
-use Rattle.bg_world.proofs.Steps.SendCases.{Went, sends_all, ticks_row}
+use Rattle.bg_protocol.specs.Devices.DeviceCalls.{datagram_of}
+use Rattle.bg_protocol.specs.Devices.KeeperCalls.{SaveCallsAt, SaveGoesOn, SaveTold, RestartCallsAt, ComesUp}
+use Rattle.bg_protocol.specs.Devices.LinkCalls.{FollowerTickCalls, SendCalls, to_referee}
+use Rattle.bg_protocol.specs.Protocol.ChooseStep.{ChooseStep}
+use Rattle.bg_protocol.specs.Protocol.Datagrams.{Carries}
+use Rattle.bg_protocol.specs.Protocol.SaveStep.{to_save_seat}
+use Rattle.bg_protocol.specs.Protocol.Slots.{next_number, SaveWritten, SaveTorn}
+use Rattle.bg_protocol.specs.Protocol.State.{ProtocolState}
+use Rattle.bg_protocol.specs.Protocol.TickStep.{SendsOnTick, want_packet, seat_packet}
+use Rattle.bg_protocol.specs.Worlds.Calls.{seat_parts}
+use Rattle.bg_protocol.specs.Worlds.Views.{KeeperView, LinkView}
+use Rattle.bg_protocol.specs.Worlds.WorldState.{IsLogOf, KeepsWhatWasShown}
+use Rattle.bg_protocol.specs.declared.devices.DeviceFault.{DeviceFault}
+use Rattle.bg_protocol.specs.declared.events.Outcome.{Outcome}
+use Rattle.bg_protocol.specs.declared.events.Outcome.TheVariants as outcomes
+use Rattle.bg_protocol.proofs.Protocol.EarlyEntries.{none_kept}
+use Rattle.bg_protocol.proofs.Protocol.Saving.{SlotsOk}
+use Rattle.bg_protocol.proofs.Steps.Hands.{carries}
+use Rattle.bg_protocol.proofs.Steps.SaveCases.{IsSaved, written, torn, spent, no_memory as save_no_memory, is_saved}
+use Rattle.bg_protocol.proofs.Steps.SendCases.{Went, sends_all, ticks_row}
 use Rattle.bg_fences.specs.SharedMatches.{Stored, seat_as_seen}
 use Rattle.bg_fences.specs.SharedNodes.{IsFenced, IsNextAt, IsRefused, process_of_seat}
 use Rattle.bg_fences.proofs.Invariant.{seat_from}

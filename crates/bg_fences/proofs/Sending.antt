@@ -13,12 +13,12 @@ use Rattle.bg_wire.specs.declared.packets.Datagram.{Datagram}
 use Rattle.bg_wire.specs.declared.packets.Packet.{Packet}
 use Rattle.bg_wire.specs.declared.packets.Packet.TheVariants as packet
 use Rattle.bg_wire.proofs.OfSaves.OneText.{one_packet}
-use Rattle.bg_world.specs.Promises.Claims.{AreClaimsKept}
-use Rattle.bg_world.specs.Promises.Refusals.{IsSound}
-use Rattle.bg_world.specs.Protocol.Datagrams.{WasSent, Carries, Claimed}
-use Rattle.bg_world.specs.Protocol.Slots.{claim_in}
-use Rattle.bg_world.specs.Protocol.State.{RefereeState, SeatState}
-use Rattle.bg_world.proofs.Protocol.Invariant.{SeatOk, RefereeOk, Claimed-more, WasSent-cases}
+use Rattle.bg_protocol.specs.Promises.Claims.{AreClaimsKept}
+use Rattle.bg_protocol.specs.Promises.Refusals.{IsSound}
+use Rattle.bg_protocol.specs.Protocol.Datagrams.{WasSent, Carries, Claimed}
+use Rattle.bg_protocol.specs.Protocol.Slots.{claim_in}
+use Rattle.bg_protocol.specs.Protocol.State.{RefereeState, SeatState}
+use Rattle.bg_protocol.proofs.Protocol.Invariant.{SeatOk, RefereeOk, Claimed-more, WasSent-cases}
 use Rattle.bg_fences.specs.SharedMatches.{RefereeProcess, SeatProcess, Stored, SharedMatch, stored_of, seats_of, at_rest, seat_as_seen, referee_as_seen}
 use Rattle.bg_fences.proofs.Invariant.{Earlier, FencedInv, RefereeProcessOk, SeatProcessOk, SeatsOk, claims_kept, ready, referee_from, seat_from}
 

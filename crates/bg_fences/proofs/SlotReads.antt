@@ -14,13 +14,13 @@ use Rattle.bg_wire.specs.declared.saves.slots.Slot.{Slot}
 use Rattle.bg_wire.specs.declared.saves.slots.Slot.TheVariants.{Zero, One}
 use Rattle.bg_wire.proofs.OfSaves.OneText.{front_loads, one_of_both, one_saved}
 use Rattle.bg_wire.proofs.OfSaves.SavedLaws.{written_is_saved}
-use Rattle.bg_world.specs.Devices.DeviceCalls.{read_outcome}
-use Rattle.bg_world.specs.Devices.KeeperCalls.{ReadsBoth, ReadsSecond, restored_of}
-use Rattle.bg_world.specs.Protocol.Slots.{MayBeLeft, SaveTorn, SaveWritten, next_number}
-use Rattle.bg_world.specs.Worlds.Views.{KeeperView}
-use Rattle.bg_world.specs.declared.devices.DeviceFault.{DeviceFault}
-use Rattle.bg_world.specs.declared.events.Outcome.{Outcome}
-use Rattle.bg_world.proofs.Protocol.Saving.{SlotsOk, after_whole}
+use Rattle.bg_protocol.specs.Devices.DeviceCalls.{read_outcome}
+use Rattle.bg_protocol.specs.Devices.KeeperCalls.{ReadsBoth, ReadsSecond, restored_of}
+use Rattle.bg_protocol.specs.Protocol.Slots.{MayBeLeft, SaveTorn, SaveWritten, next_number}
+use Rattle.bg_protocol.specs.Worlds.Views.{KeeperView}
+use Rattle.bg_protocol.specs.declared.devices.DeviceFault.{DeviceFault}
+use Rattle.bg_protocol.specs.declared.events.Outcome.{Outcome}
+use Rattle.bg_protocol.proofs.Protocol.Saving.{SlotsOk, after_whole}
 use Rattle.bg_fences.specs.NodeActs.{AreReadOf}
 use Rattle.bg_fences.proofs.Lists.{cases_in, tail_in}
 

@@ -17,21 +17,21 @@ use Rattle.bg_referee.specs.declared.outcomes.TakeOutcome.TheVariants as takes
 use Rattle.bg_wire.specs.declared.packets.Datagram.{Datagram}
 use Rattle.bg_wire.specs.declared.packets.Packet.{Packet}
 use Rattle.bg_wire.specs.declared.packets.Packet.TheVariants as packet
-use Rattle.bg_world.specs.declared.events.Event.{Event}
-use Rattle.bg_world.specs.declared.events.Event.TheVariants as events
-use Rattle.bg_world.specs.declared.events.Outcome.{Outcome}
-use Rattle.bg_world.specs.declared.events.Outcome.TheVariants as outcomes
-use Rattle.bg_world.specs.declared.roles.Role.{Role}
-use Rattle.bg_world.specs.declared.roles.Role.TheVariants.{Referee as AsReferee, Seat as AsSeat, Watcher as AsWatcher}
-use Rattle.bg_world.specs.Protocol.DueStep.{DueStep}
-use Rattle.bg_world.specs.Protocol.RefereeTakeStep.{RefereeTakeStep, ReplyStep}
-use Rattle.bg_world.specs.Protocol.Roles.{role}
-use Rattle.bg_world.specs.Protocol.SaveStep.{RefereeSaveStep, to_save_referee}
-use Rattle.bg_world.specs.Protocol.Slots.{entries_in}
-use Rattle.bg_world.specs.Protocol.State.{ProtocolState}
-use Rattle.bg_world.specs.Protocol.TickStep.{SendsOnTick}
-use Rattle.bg_world.specs.Worlds.DiceWords.{HandsIn, IsWordOf, ShowsWord}
-use Rattle.bg_world.proofs.Protocol.Reached.{saves_survive}
+use Rattle.bg_protocol.specs.declared.events.Event.{Event}
+use Rattle.bg_protocol.specs.declared.events.Event.TheVariants as events
+use Rattle.bg_protocol.specs.declared.events.Outcome.{Outcome}
+use Rattle.bg_protocol.specs.declared.events.Outcome.TheVariants as outcomes
+use Rattle.bg_protocol.specs.declared.roles.Role.{Role}
+use Rattle.bg_protocol.specs.declared.roles.Role.TheVariants.{Referee as AsReferee, Seat as AsSeat, Watcher as AsWatcher}
+use Rattle.bg_protocol.specs.Protocol.DueStep.{DueStep}
+use Rattle.bg_protocol.specs.Protocol.RefereeTakeStep.{RefereeTakeStep, ReplyStep}
+use Rattle.bg_protocol.specs.Protocol.Roles.{role}
+use Rattle.bg_protocol.specs.Protocol.SaveStep.{RefereeSaveStep, to_save_referee}
+use Rattle.bg_protocol.specs.Protocol.Slots.{entries_in}
+use Rattle.bg_protocol.specs.Protocol.State.{ProtocolState}
+use Rattle.bg_protocol.specs.Protocol.TickStep.{SendsOnTick}
+use Rattle.bg_protocol.specs.Worlds.DiceWords.{HandsIn, IsWordOf, ShowsWord}
+use Rattle.bg_protocol.proofs.Protocol.Reached.{saves_survive}
 use Rattle.bg_fences.specs.FencedPromises.{ShowsWordsHandedIn}
 use Rattle.bg_fences.specs.ProcessCalls.{IsNewest, ProcessBegins, ProcessCalls, ProcessSaves, ProcessTakes, ProcessTicks, RefereeGoes, RefereeSaves, SeatSaves}
 use Rattle.bg_fences.specs.ProcessRuns.{IsReachedByProcesses, ProcessesRun, events_of, no_process}

@@ -8,10 +8,10 @@ use Rattle.bg_match.specs.declared.entries.Entry.{Entry}
 use Rattle.bg_wire.proofs.OfSaves.SavedLaws.{written_is_saved}
 use Rattle.bg_wire.specs.Saved.SavedText.{SavedParts, IsWrittenText, written_text}
 use Rattle.bg_wire.specs.Saved.SlotLaws.{save_in}
-use Rattle.bg_world.specs.Promises.Agreement.{IsPrefix}
-use Rattle.bg_world.specs.Protocol.SaveStep.{RefereeSaveStep}
-use Rattle.bg_world.specs.Protocol.State.{ProtocolState}
-use Rattle.bg_world.specs.declared.events.Outcome.TheVariants as outcomes
+use Rattle.bg_protocol.specs.Promises.Agreement.{IsPrefix}
+use Rattle.bg_protocol.specs.Protocol.SaveStep.{RefereeSaveStep}
+use Rattle.bg_protocol.specs.Protocol.State.{ProtocolState}
+use Rattle.bg_protocol.specs.declared.events.Outcome.TheVariants as outcomes
 use Rattle.bg_fences.specs.FencedPromises.{FencedHeadline}
 use Rattle.bg_fences.specs.ProcessCalls.{IsNewest}
 use Rattle.bg_fences.specs.ProcessRuns.{IsReachedByProcesses}

@@ -8,9 +8,9 @@ use Rattle.bg_wire.specs.Saved.SlotLaws.{Slots, save_in}
 use Rattle.bg_wire.specs.declared.saves.slots.Slot.TheVariants.{One}
 use Rattle.bg_wire.proofs.OfSaves.OneText.{empty_loads, one_saved, restores_once}
 use Rattle.bg_wire.proofs.OfSaves.SavedLaws.{written_is_saved}
-use Rattle.bg_world.specs.Protocol.Slots.{empty_slots}
-use Rattle.bg_world.specs.declared.devices.DeviceFault.{DeviceFault}
-use Rattle.bg_world.specs.declared.devices.DeviceFault.TheVariants.{Failed, Memory}
+use Rattle.bg_protocol.specs.Protocol.Slots.{empty_slots}
+use Rattle.bg_protocol.specs.declared.devices.DeviceFault.{DeviceFault}
+use Rattle.bg_protocol.specs.declared.devices.DeviceFault.TheVariants.{Failed, Memory}
 use Rattle.bg_fences.specs.FencedWrites.{IsNextText, IsWriteFenced, IsWriteRefused, WritesNext}
 use Rattle.bg_fences.proofs.WorkedNodes.{o_written, saved_o}
 use Rattle.bg_fences.proofs.WorkedProcesses.{saved, saved_written}

@@ -14,12 +14,12 @@ use Rattle.bg_wire.specs.Saved.SavedText.{IsWrittenText, SavedParts, written_tex
 use Rattle.bg_wire.specs.declared.packets.Datagram.{Datagram}
 use Rattle.bg_wire.specs.declared.packets.Packet.{Packet}
 use Rattle.bg_wire.specs.declared.packets.Packet.TheVariants as packet
-use Rattle.bg_world.proofs.Steps.Hands.{carries}
-use Rattle.bg_world.specs.Devices.DeviceCalls.{datagram_of}
-use Rattle.bg_world.specs.Protocol.RefereeTakeStep.{ShowsSaved}
-use Rattle.bg_world.specs.Protocol.State.{Exists}
-use Rattle.bg_world.specs.declared.events.Event.TheVariants as events
-use Rattle.bg_world.specs.declared.events.Outcome.TheVariants as outcomes
+use Rattle.bg_protocol.proofs.Steps.Hands.{carries}
+use Rattle.bg_protocol.specs.Devices.DeviceCalls.{datagram_of}
+use Rattle.bg_protocol.specs.Protocol.RefereeTakeStep.{ShowsSaved}
+use Rattle.bg_protocol.specs.Protocol.State.{Exists}
+use Rattle.bg_protocol.specs.declared.events.Event.TheVariants as events
+use Rattle.bg_protocol.specs.declared.events.Outcome.TheVariants as outcomes
 use Rattle.bg_fences.specs.ProcessCalls.{ProcessCalls, RefereeSaves}
 use Rattle.bg_fences.specs.ProcessRuns.{IsReachedByProcesses}
 use Rattle.bg_fences.specs.SharedMatches.{RefereeProcess, SharedMatch, seen_by_referee}

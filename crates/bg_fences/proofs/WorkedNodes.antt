@@ -12,13 +12,13 @@ use Rattle.bg_wire.specs.Saved.SavedText.{SavedParts, IsWrittenText, written_tex
 use Rattle.bg_wire.specs.Saved.SlotLaws.{Slots, bytes_in}
 use Rattle.bg_wire.specs.declared.saves.slots.Slot.{Slot}
 use Rattle.bg_wire.specs.declared.saves.slots.Slot.TheVariants.{Zero, One}
-use Rattle.bg_world.specs.Devices.DeviceCalls.{ReadsOnce}
-use Rattle.bg_world.specs.Protocol.Slots.{empty_slots}
-use Rattle.bg_world.specs.Worlds.Nodes.{RefereeNodeRestarts, RefereeNodeSaves}
-use Rattle.bg_world.specs.Worlds.Views.{KeeperView}
-use Rattle.bg_world.specs.declared.devices.DeviceFault.TheVariants.{Failed}
-use Rattle.bg_world.specs.declared.events.Event.TheVariants as events
-use Rattle.bg_world.specs.declared.events.Outcome.TheVariants as outcomes
+use Rattle.bg_protocol.specs.Devices.DeviceCalls.{ReadsOnce}
+use Rattle.bg_protocol.specs.Protocol.Slots.{empty_slots}
+use Rattle.bg_protocol.specs.Worlds.Nodes.{RefereeNodeRestarts, RefereeNodeSaves}
+use Rattle.bg_protocol.specs.Worlds.Views.{KeeperView}
+use Rattle.bg_protocol.specs.declared.devices.DeviceFault.TheVariants.{Failed}
+use Rattle.bg_protocol.specs.declared.events.Event.TheVariants as events
+use Rattle.bg_protocol.specs.declared.events.Outcome.TheVariants as outcomes
 use Rattle.bg_fences.specs.NodeActs.{AreReadOf, IsReachedByNodes, NodeActs, no_node_begun, referee_with}
 use Rattle.bg_fences.specs.SharedNodes.{SharedNodes}
 use Rattle.bg_fences.proofs.Lists.{head_in}

@@ -17,8 +17,8 @@ use Rattle.bg_referee.specs.Dues.{IsDue}
 use Rattle.bg_wire.proofs.OfSaves.OneText.{empty_loads}
 use Rattle.bg_wire.proofs.OfSaves.SavedLaws.{written_is_saved}
 use Rattle.bg_wire.specs.Saved.SavedText.{SavedParts, IsWrittenText, written_text}
-use Rattle.bg_world.specs.declared.events.Event.TheVariants as events
-use Rattle.bg_world.specs.declared.events.Outcome.TheVariants as outcomes
+use Rattle.bg_protocol.specs.declared.events.Event.TheVariants as events
+use Rattle.bg_protocol.specs.declared.events.Outcome.TheVariants as outcomes
 use Rattle.bg_fences.specs.SharedMatches.{RefereeProcess, SharedMatch}
 use Rattle.bg_fences.specs.ProcessCalls.{RefereeSaves}
 use Rattle.bg_fences.specs.ProcessRuns.{IsReachedByProcesses, no_process}

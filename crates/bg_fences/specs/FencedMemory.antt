@@ -1,7 +1,7 @@
 -- What contracts see of a keeper in memory behind a fence.
 use Rattle.std.specs.Prelude.{None, length}
 use Rattle.bg_wire.specs.Saved.SlotLaws.{Slots}
-use Rattle.bg_world.specs.Worlds.Views.{KeeperView}
+use Rattle.bg_protocol.specs.Worlds.Views.{KeeperView}
 use Rattle.bg_fences.specs.declared.fenced_memory_keepers.FencedMemoryKeeper.{FencedMemoryKeeper}
 
 abbrev pub fenced_slots : FencedMemoryKeeper → Slots

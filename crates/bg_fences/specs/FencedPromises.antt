@@ -7,19 +7,19 @@ use Rattle.bg_match.specs.declared.entries.Entry.{Entry}
 use Rattle.bg_wire.specs.Runs.{IsRun}
 use Rattle.bg_wire.specs.declared.packets.Packet.{Packet}
 use Rattle.bg_wire.specs.declared.packets.Packet.TheVariants as packet
-use Rattle.bg_world.specs.Promises.Agreement.{Agreement, IsPrefix}
-use Rattle.bg_world.specs.Promises.Claims.{AreClaimsKept}
-use Rattle.bg_world.specs.Promises.GivenBack.{AreSlotsGivenBack}
-use Rattle.bg_world.specs.Promises.Headline.{AreAnswered, Headline}
-use Rattle.bg_world.specs.Promises.Refusals.{AreNoEntriesRefused, IsNoPacketRefused}
-use Rattle.bg_world.specs.Promises.Refusals.{IsNoSlotRefused, IsSound}
-use Rattle.bg_world.specs.Promises.Shown.{ShowsSavedAlone}
-use Rattle.bg_world.specs.Promises.Survival.{SavesSurvive}
-use Rattle.bg_world.specs.Protocol.Datagrams.{WasSent}
-use Rattle.bg_world.specs.Protocol.Slots.{claim_in}
-use Rattle.bg_world.specs.Protocol.State.{ProtocolState}
-use Rattle.bg_world.specs.Worlds.DiceWords.{ShowsWordsOf}
-use Rattle.bg_world.specs.declared.events.Event.{Event}
+use Rattle.bg_protocol.specs.Promises.Agreement.{Agreement, IsPrefix}
+use Rattle.bg_protocol.specs.Promises.Claims.{AreClaimsKept}
+use Rattle.bg_protocol.specs.Promises.GivenBack.{AreSlotsGivenBack}
+use Rattle.bg_protocol.specs.Promises.Headline.{AreAnswered, Headline}
+use Rattle.bg_protocol.specs.Promises.Refusals.{AreNoEntriesRefused, IsNoPacketRefused}
+use Rattle.bg_protocol.specs.Promises.Refusals.{IsNoSlotRefused, IsSound}
+use Rattle.bg_protocol.specs.Promises.Shown.{ShowsSavedAlone}
+use Rattle.bg_protocol.specs.Promises.Survival.{SavesSurvive}
+use Rattle.bg_protocol.specs.Protocol.Datagrams.{WasSent}
+use Rattle.bg_protocol.specs.Protocol.Slots.{claim_in}
+use Rattle.bg_protocol.specs.Protocol.State.{ProtocolState}
+use Rattle.bg_protocol.specs.Worlds.DiceWords.{ShowsWordsOf}
+use Rattle.bg_protocol.specs.declared.events.Event.{Event}
 use Rattle.bg_fences.specs.ProcessCalls.{IsNewest}
 use Rattle.bg_fences.specs.SharedMatches.{RefereeProcess, SeatProcess, WatcherProcess}
 use Rattle.bg_fences.specs.SharedMatches.{SharedMatch, at_rest, stored_of, seats_of, settled}

@@ -5,10 +5,10 @@ use Rattle.bg_wire.specs.Saved.SavedText.{SavedParts, IsSavedText}
 use Rattle.bg_wire.specs.Saved.Saves.{IsNextSave, slot_of}
 use Rattle.bg_wire.specs.Saved.SlotLaws.{Slots, with_slot}
 use Rattle.bg_wire.specs.declared.saves.slots.Slot.{Slot}
-use Rattle.bg_world.specs.Protocol.Slots.{next_number}
-use Rattle.bg_world.specs.declared.devices.DeviceFault.{DeviceFault}
-use Rattle.bg_world.specs.declared.devices.DeviceFault.TheVariants.{Failed, Memory}
-use Rattle.bg_world.specs.declared.nodes.saves.Save.{Save}
+use Rattle.bg_protocol.specs.Protocol.Slots.{next_number}
+use Rattle.bg_protocol.specs.declared.devices.DeviceFault.{DeviceFault}
+use Rattle.bg_protocol.specs.declared.devices.DeviceFault.TheVariants.{Failed, Memory}
+use Rattle.bg_protocol.specs.declared.nodes.saves.Save.{Save}
 use Rattle.bg_fences.specs.SharedNodes.{IsNextAt}
 
 -- a party began this save: its slot and its number are those of its text

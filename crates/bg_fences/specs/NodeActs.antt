@@ -7,22 +7,22 @@ use Rattle.bg_party.specs.Views.{SeatView, WatcherView, fresh_watcher}
 use Rattle.bg_referee.specs.Referee.{RefereeView}
 use Rattle.bg_wire.specs.Entries.Codes.{first_watcher}
 use Rattle.bg_wire.specs.Saved.SlotLaws.{Slots}
-use Rattle.bg_world.specs.Devices.LinkCalls.{FollowerTakeCalls, FollowerTickCalls}
-use Rattle.bg_world.specs.Protocol.Roles.{role}
-use Rattle.bg_world.specs.Protocol.Slots.{empty_slots}
-use Rattle.bg_world.specs.Protocol.State.{IsSetup}
-use Rattle.bg_world.specs.Worlds.Calls.{WatcherTakes}
-use Rattle.bg_world.specs.Worlds.Nodes.{RefereeNodeDues, RefereeNodeRestarts, RefereeNodeSaves}
-use Rattle.bg_world.specs.Worlds.Nodes.{RefereeNodeTakes, RefereeNodeTicks, RefereeNodeView}
-use Rattle.bg_world.specs.Worlds.Nodes.{SeatNodeChooses, SeatNodeRestarts, SeatNodeSaves}
-use Rattle.bg_world.specs.Worlds.Nodes.{SeatNodeTakes, SeatNodeTicks, SeatNodeView}
-use Rattle.bg_world.specs.Worlds.Views.{KeeperView, LinkView}
-use Rattle.bg_world.specs.declared.events.Event.{Event}
-use Rattle.bg_world.specs.declared.events.Event.TheVariants as events
-use Rattle.bg_world.specs.declared.events.Outcome.{Outcome}
-use Rattle.bg_world.specs.declared.events.Outcome.TheVariants as outcomes
-use Rattle.bg_world.specs.declared.roles.Role.{Role}
-use Rattle.bg_world.specs.declared.roles.Role.TheVariants as roles
+use Rattle.bg_protocol.specs.Devices.LinkCalls.{FollowerTakeCalls, FollowerTickCalls}
+use Rattle.bg_protocol.specs.Protocol.Roles.{role}
+use Rattle.bg_protocol.specs.Protocol.Slots.{empty_slots}
+use Rattle.bg_protocol.specs.Protocol.State.{IsSetup}
+use Rattle.bg_protocol.specs.Worlds.Calls.{WatcherTakes}
+use Rattle.bg_protocol.specs.Worlds.Nodes.{RefereeNodeDues, RefereeNodeRestarts, RefereeNodeSaves}
+use Rattle.bg_protocol.specs.Worlds.Nodes.{RefereeNodeTakes, RefereeNodeTicks, RefereeNodeView}
+use Rattle.bg_protocol.specs.Worlds.Nodes.{SeatNodeChooses, SeatNodeRestarts, SeatNodeSaves}
+use Rattle.bg_protocol.specs.Worlds.Nodes.{SeatNodeTakes, SeatNodeTicks, SeatNodeView}
+use Rattle.bg_protocol.specs.Worlds.Views.{KeeperView, LinkView}
+use Rattle.bg_protocol.specs.declared.events.Event.{Event}
+use Rattle.bg_protocol.specs.declared.events.Event.TheVariants as events
+use Rattle.bg_protocol.specs.declared.events.Outcome.{Outcome}
+use Rattle.bg_protocol.specs.declared.events.Outcome.TheVariants as outcomes
+use Rattle.bg_protocol.specs.declared.roles.Role.{Role}
+use Rattle.bg_protocol.specs.declared.roles.Role.TheVariants as roles
 use Rattle.bg_fences.specs.SharedMatches.{Becomes}
 use Rattle.bg_fences.specs.SharedNodes.{SharedNodes, IsFencedAt, referee_number, seat_number}
 use Rattle.bg_fences.specs.SharedNodes.{slots_of, cores_of, with_seat_nodes, all_parties}

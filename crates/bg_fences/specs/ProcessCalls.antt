@@ -6,22 +6,22 @@ use Rattle.bg_wire.specs.Entries.Codes.{referee, first_watcher}
 use Rattle.bg_wire.specs.Parties.{party_of}
 use Rattle.bg_wire.specs.Saved.SavedText.{SavedParts}
 use Rattle.bg_wire.specs.Saved.SlotLaws.{save_in}
-use Rattle.bg_world.specs.declared.events.Event.{Event}
-use Rattle.bg_world.specs.declared.events.Event.TheVariants as events
-use Rattle.bg_world.specs.declared.events.Outcome.{Outcome}
-use Rattle.bg_world.specs.declared.events.Outcome.TheVariants as outcomes
-use Rattle.bg_world.specs.declared.roles.Role.{Role}
-use Rattle.bg_world.specs.declared.roles.Role.TheVariants.{Referee as AsReferee, Seat as AsSeat}
-use Rattle.bg_world.specs.declared.roles.Role.TheVariants.{Watcher as AsWatcher}
-use Rattle.bg_world.specs.Protocol.ChooseStep.{ChooseStep}
-use Rattle.bg_world.specs.Protocol.Datagrams.{Carries}
-use Rattle.bg_world.specs.Protocol.DueStep.{DueStep}
-use Rattle.bg_world.specs.Protocol.FollowerTakeStep.{FollowerTakeStep}
-use Rattle.bg_world.specs.Protocol.RefereeTakeStep.{RefereeTakeStep}
-use Rattle.bg_world.specs.Protocol.Roles.{role}
-use Rattle.bg_world.specs.Protocol.SaveStep.{RefereeSaveStep, SeatSaveStep}
-use Rattle.bg_world.specs.Protocol.State.{ProtocolState, SeatState, seat_in}
-use Rattle.bg_world.specs.Protocol.TickStep.{TickStep, SendsOnTick, want_packet}
+use Rattle.bg_protocol.specs.declared.events.Event.{Event}
+use Rattle.bg_protocol.specs.declared.events.Event.TheVariants as events
+use Rattle.bg_protocol.specs.declared.events.Outcome.{Outcome}
+use Rattle.bg_protocol.specs.declared.events.Outcome.TheVariants as outcomes
+use Rattle.bg_protocol.specs.declared.roles.Role.{Role}
+use Rattle.bg_protocol.specs.declared.roles.Role.TheVariants.{Referee as AsReferee, Seat as AsSeat}
+use Rattle.bg_protocol.specs.declared.roles.Role.TheVariants.{Watcher as AsWatcher}
+use Rattle.bg_protocol.specs.Protocol.ChooseStep.{ChooseStep}
+use Rattle.bg_protocol.specs.Protocol.Datagrams.{Carries}
+use Rattle.bg_protocol.specs.Protocol.DueStep.{DueStep}
+use Rattle.bg_protocol.specs.Protocol.FollowerTakeStep.{FollowerTakeStep}
+use Rattle.bg_protocol.specs.Protocol.RefereeTakeStep.{RefereeTakeStep}
+use Rattle.bg_protocol.specs.Protocol.Roles.{role}
+use Rattle.bg_protocol.specs.Protocol.SaveStep.{RefereeSaveStep, SeatSaveStep}
+use Rattle.bg_protocol.specs.Protocol.State.{ProtocolState, SeatState, seat_in}
+use Rattle.bg_protocol.specs.Protocol.TickStep.{TickStep, SendsOnTick, want_packet}
 use Rattle.bg_fences.specs.SharedMatches.{RefereeProcess, SeatProcess, WatcherProcess}
 use Rattle.bg_fences.specs.SharedMatches.{SharedMatch, stored_of, seats_of, with_stored, with_seats}
 use Rattle.bg_fences.specs.SharedMatches.{at_rest, seen_by_referee, seen_by_seat, seat_as_seen}

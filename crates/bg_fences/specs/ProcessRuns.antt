@@ -1,10 +1,10 @@
 -- Whole runs of processes.
 use Rattle.std.specs.Prelude.{◌≡◌, ℕ, None, List, [], ◌∷◌}
 use Rattle.bg_match.specs.Terms.{Terms}
-use Rattle.bg_world.specs.declared.events.Event.{Event}
-use Rattle.bg_world.specs.declared.events.Outcome.{Outcome}
-use Rattle.bg_world.specs.Protocol.Slots.{empty_slots}
-use Rattle.bg_world.specs.Protocol.State.{IsSetup}
+use Rattle.bg_protocol.specs.declared.events.Event.{Event}
+use Rattle.bg_protocol.specs.declared.events.Outcome.{Outcome}
+use Rattle.bg_protocol.specs.Protocol.Slots.{empty_slots}
+use Rattle.bg_protocol.specs.Protocol.State.{IsSetup}
 use Rattle.bg_fences.specs.SharedMatches.{Stored, SharedMatch}
 use Rattle.bg_fences.specs.ProcessCalls.{ProcessCalls}
 

@@ -9,9 +9,9 @@ use Rattle.bg_match.specs.declared.entries.Entry.{Entry}
 use Rattle.bg_wire.specs.Saved.SavedText.{SavedParts}
 use Rattle.bg_wire.specs.Saved.SlotLaws.{Slots, save_in}
 use Rattle.bg_wire.specs.declared.packets.Datagram.{Datagram}
-use Rattle.bg_world.specs.Protocol.Slots.{entries_in}
-use Rattle.bg_world.specs.Protocol.State.{ProtocolState, RefereeState, SeatState}
-use Rattle.bg_world.specs.Protocol.State.{restored_referee, restored_seat, with_seat}
+use Rattle.bg_protocol.specs.Protocol.Slots.{entries_in}
+use Rattle.bg_protocol.specs.Protocol.State.{ProtocolState, RefereeState, SeatState}
+use Rattle.bg_protocol.specs.Protocol.State.{restored_referee, restored_seat, with_seat}
 
 -- what a process of the referee holds: its record, how many entries of it count as saved, and the
 -- number of the save that it made last or began with, 0 where there was none

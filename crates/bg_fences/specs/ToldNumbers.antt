@@ -3,8 +3,8 @@ use Rattle.std.specs.Prelude.{◌≡◌, ℕ, List, Option, Result, Ok, Err}
 use Rattle.bg_wire.specs.Saved.Restoring.{LoadsAs, SlotsRestore}
 use Rattle.bg_wire.specs.Saved.SavedText.{SavedParts}
 use Rattle.bg_wire.specs.Saved.SlotLaws.{Slots, save_in}
-use Rattle.bg_world.specs.declared.devices.DeviceFault.{DeviceFault}
-use Rattle.bg_world.specs.declared.devices.DeviceFault.TheVariants.{Failed, Memory}
+use Rattle.bg_protocol.specs.declared.devices.DeviceFault.{DeviceFault}
+use Rattle.bg_protocol.specs.declared.devices.DeviceFault.TheVariants.{Failed, Memory}
 
 -- the number of the save whose text the bytes are, and 0 where they are none; or memory is wanted
 abbrev pub TellsNumber : List ℕ → Result ℕ DeviceFault → Type 0

@@ -1,9 +1,9 @@
 //! Keepers that have a fence.
-ghost use Rattle.bg_world.specs.Devices.DeviceCalls.{WritesOnce};
-ghost use Rattle.bg_world.specs.Worlds.Views.{keeper_view};
+ghost use Rattle.bg_protocol.specs.Devices.DeviceCalls.{WritesOnce};
+ghost use Rattle.bg_protocol.specs.Worlds.Views.{keeper_view};
 ghost use Rattle.bg_fences.specs.FencedWrites.{IsBegunSave, IsWriteFenced};
 
-use bg_world::{DeviceFault, Keeper, Save};
+use bg_protocol::{DeviceFault, Keeper, Save};
 
 /// A keeper behind a fence, which any number of processes of a party may share
 /// (docs/PROTOCOL.md, "Many processes of one party"). Nodes save over it by

@@ -1,13 +1,13 @@
 //! A keeper in memory behind a fence.
 ghost use Rattle.std.specs.Prelude.{◌≡◌};
-ghost use Rattle.bg_world.specs.Devices.DeviceCalls.{WritesOnce};
+ghost use Rattle.bg_protocol.specs.Devices.DeviceCalls.{WritesOnce};
 ghost use Rattle.bg_fences.specs.FencedWrites.{WritesNext};
 
 use crate::FencedKeeper;
 use crate::memory_slots::MemorySlots;
+use bg_protocol::{DeviceFault, Keeper, Save, count_failed};
 use bg_streams::History;
 use bg_wire::Slot;
-use bg_world::{DeviceFault, Keeper, Save, count_failed};
 use std::alloc::Global;
 
 /// A keeper in memory behind a fence, which is honest. Any number of nodes of a party may share it:

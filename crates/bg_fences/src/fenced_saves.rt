@@ -1,10 +1,10 @@
 //! Saves of nodes over a keeper that has a fence.
-ghost use Rattle.bg_world.specs.Worlds.Nodes.{RefereeNodeSaves, SeatNodeSaves, referee_node_of, seat_node_of};
-ghost use Rattle.bg_world.specs.Worlds.Views.{keeper_view};
+ghost use Rattle.bg_protocol.specs.Worlds.Nodes.{RefereeNodeSaves, SeatNodeSaves, referee_node_of, seat_node_of};
+ghost use Rattle.bg_protocol.specs.Worlds.Views.{keeper_view};
 ghost use Rattle.bg_fences.specs.SharedNodes.{IsFencedAt, referee_number, seat_number};
 
 use crate::FencedKeeper;
-use bg_world::{Outcome, RefereeNode, SeatNode};
+use bg_protocol::{Outcome, RefereeNode, SeatNode};
 
 /// Saves what a node of the referee holds, over a keeper that other nodes of the referee may share.
 /// It does what [`RefereeNode::save`] does, and the save passes the fence or is refused. Then the

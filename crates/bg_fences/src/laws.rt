@@ -11,11 +11,11 @@ ghost use Rattle.bg_fences.specs.ProcessRuns.{IsReachedByProcesses, events_of};
 ghost use Rattle.bg_fences.specs.SharedMatches.{Becomes, SharedMatch};
 ghost use Rattle.bg_fences.specs.SharedNodes.{IsFencedAt, SharedNodes, cores_of, processes_of, referee_number};
 ghost use Rattle.bg_fences.specs.SharedNodes.{seat_number, slots_of, with_seat_nodes};
-ghost use Rattle.bg_world.specs.Worlds.Nodes.{RefereeNodeSaves, RefereeNodeView, SeatNodeSaves, SeatNodeView};
-ghost use Rattle.bg_world.specs.Worlds.Views.{KeeperView};
-ghost use Rattle.bg_world.specs.Worlds.WorldState.{Restorable};
-ghost use Rattle.bg_world.specs.declared.events.Event.TheVariants as events;
-ghost use Rattle.bg_world.specs.declared.events.Outcome.{Outcome};
+ghost use Rattle.bg_protocol.specs.Worlds.Nodes.{RefereeNodeSaves, RefereeNodeView, SeatNodeSaves, SeatNodeView};
+ghost use Rattle.bg_protocol.specs.Worlds.Views.{KeeperView};
+ghost use Rattle.bg_protocol.specs.Worlds.WorldState.{Restorable};
+ghost use Rattle.bg_protocol.specs.declared.events.Event.TheVariants as events;
+ghost use Rattle.bg_protocol.specs.declared.events.Outcome.{Outcome};
 
 /// States that processes behind a fence agree, whatever calls they make, in any order, and however
 /// old what they hold is. What is settled is one legal match, and all that any process has told,

@@ -5,8 +5,8 @@ ghost use Rattle.bg_wire.specs.Saved.SlotLaws.{bytes_in, with_slot};
 ghost use Rattle.bg_fences.specs.FencedWrites.{WritesNext};
 ghost use Rattle.bg_fences.specs.ToldNumbers.{TellsNewest, TellsNumber};
 
+use bg_protocol::DeviceFault;
 use bg_wire::{LoadFault, Slot, load};
-use bg_world::DeviceFault;
 use std::alloc::Global;
 use std::marker::Model;
 

@@ -2,7 +2,7 @@
 use Rattle.std.specs.Prelude.{◌≡◌, ◌↔◌, ℕ, Option, Some, None}
 use Rattle.std.proofs.Common.{ap, refl, sym, ◌∙◌}
 use Rattle.bg_match.specs.declared.actions.Action.{Action}
-use Rattle.bg_world.specs.Worlds.Views.{WorldView}
+use Rattle.bg_protocol.specs.Worlds.Views.{WorldView}
 use Rattle.bg_hosted.specs.Acting.{ActsAgain}
 use Rattle.bg_hosted.specs.declared.acting.Acted.{Acted}
 

@@ -1,12 +1,12 @@
 -- What goes on, goes on further.
 use Rattle.std.proofs.Common.{◌≡◌, ℕ, List, [], ◌∷◌, ◌++◌, refl, subst}
 use Rattle.std.specs.List.{AllByRecursion}
-use Rattle.bg_world.specs.Worlds.Calls.{Calls}
-use Rattle.bg_world.specs.Worlds.Views.{WorldView}
-use Rattle.bg_world.specs.Worlds.WorldRuns.{CallsAll}
-use Rattle.bg_world.specs.declared.events.Event.{Event}
-use Rattle.bg_world.specs.declared.events.Outcome.{Outcome}
-use Rattle.bg_world.specs.declared.events.Event.TheVariants as events
+use Rattle.bg_protocol.specs.Worlds.Calls.{Calls}
+use Rattle.bg_protocol.specs.Worlds.Views.{WorldView}
+use Rattle.bg_protocol.specs.Worlds.WorldRuns.{CallsAll}
+use Rattle.bg_protocol.specs.declared.events.Event.{Event}
+use Rattle.bg_protocol.specs.declared.events.Outcome.{Outcome}
+use Rattle.bg_protocol.specs.declared.events.Event.TheVariants as events
 use Rattle.bg_hosted.specs.Going.{GoesOn, IsNoChoice}
 use Rattle.bg_hosted.specs.Lives.{Restarts}
 

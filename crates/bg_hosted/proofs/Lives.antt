@@ -17,18 +17,18 @@ use Rattle.bg_party.specs.declared.outcomes.Learned.{Learned}
 use Rattle.bg_referee.specs.Dues.{RefereeDues}
 use Rattle.bg_referee.specs.declared.outcomes.DueFault.{DueFault}
 use Rattle.bg_wire.specs.Entries.Codes.{referee}
-use Rattle.bg_world.specs.Devices.DeviceCalls.{Posts, Receives, datagram_of, link_outcome}
-use Rattle.bg_world.specs.Devices.Honesty.{Sends}
-use Rattle.bg_world.specs.Devices.LinkCalls.{AnswerCalls, ComesTo, FollowerTakeCalls, FollowerTickCalls, RefereeHandles, RefereeTakeCalls, RefereeTickCalls, SendCalls, to_referee}
-use Rattle.bg_world.specs.Protocol.Datagrams.{WasSent}
-use Rattle.bg_world.specs.Protocol.Roles.{role}
-use Rattle.bg_world.specs.Worlds.Calls.{Calls, NoCalls, RestartCalls, SaveCalls, SeatTakes, TakeCalls, TickCalls, WatcherTakes}
-use Rattle.bg_world.specs.Worlds.Views.{LinkView, WorldView, parties}
-use Rattle.bg_world.specs.declared.devices.DeviceFault.{DeviceFault}
-use Rattle.bg_world.specs.declared.events.Event.{Event}
-use Rattle.bg_world.specs.declared.events.Event.TheVariants as events
-use Rattle.bg_world.specs.declared.events.Outcome.{Outcome}
-use Rattle.bg_world.specs.declared.events.Outcome.TheVariants as outcomes
+use Rattle.bg_protocol.specs.Devices.DeviceCalls.{Posts, Receives, datagram_of, link_outcome}
+use Rattle.bg_protocol.specs.Devices.Honesty.{Sends}
+use Rattle.bg_protocol.specs.Devices.LinkCalls.{AnswerCalls, ComesTo, FollowerTakeCalls, FollowerTickCalls, RefereeHandles, RefereeTakeCalls, RefereeTickCalls, SendCalls, to_referee}
+use Rattle.bg_protocol.specs.Protocol.Datagrams.{WasSent}
+use Rattle.bg_protocol.specs.Protocol.Roles.{role}
+use Rattle.bg_protocol.specs.Worlds.Calls.{Calls, NoCalls, RestartCalls, SaveCalls, SeatTakes, TakeCalls, TickCalls, WatcherTakes}
+use Rattle.bg_protocol.specs.Worlds.Views.{LinkView, WorldView, parties}
+use Rattle.bg_protocol.specs.declared.devices.DeviceFault.{DeviceFault}
+use Rattle.bg_protocol.specs.declared.events.Event.{Event}
+use Rattle.bg_protocol.specs.declared.events.Event.TheVariants as events
+use Rattle.bg_protocol.specs.declared.events.Outcome.{Outcome}
+use Rattle.bg_protocol.specs.declared.events.Outcome.TheVariants as outcomes
 use Rattle.bg_hosted.specs.Lives.{in_later_life}
 
 module _ (before : List Datagram) where

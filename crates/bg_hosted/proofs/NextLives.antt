@@ -6,19 +6,19 @@ use Rattle.bg_board.specs.declared.players.Player.TheVariants.{X, O}
 use Rattle.bg_referee.specs.Referee.{RefereeView}
 use Rattle.bg_party.specs.Views.{SeatView, WatcherView, fresh_watcher}
 use Rattle.bg_wire.specs.declared.packets.Datagram.{Datagram}
-use Rattle.bg_world.specs.Worlds.Calls.{NoCalls, RestartCalls}
-use Rattle.bg_world.specs.Worlds.Interleavings.{AreSeenAs, over_devices}
-use Rattle.bg_world.specs.Worlds.Starts.{fresh_world}
-use Rattle.bg_world.specs.Worlds.Views.{KeeperView, LinkView, WorldView}
-use Rattle.bg_world.specs.Worlds.WorldRuns.{CallsAll}
-use Rattle.bg_world.specs.Worlds.WorldState.{IsReachedWorld}
-use Rattle.bg_world.specs.declared.events.Event.{Event}
-use Rattle.bg_world.specs.declared.events.Event.TheVariants as events
-use Rattle.bg_world.specs.declared.events.Outcome.{Outcome}
-use Rattle.bg_world.specs.declared.events.Outcome.TheVariants as outcomes
-use Rattle.bg_world.specs.declared.roles.Role.TheVariants as roles
-use Rattle.bg_world.proofs.ReachedWorlds.Interleaved.{interleaved}
-use Rattle.bg_world.proofs.Steps.Goes.{goes}
+use Rattle.bg_protocol.specs.Worlds.Calls.{NoCalls, RestartCalls}
+use Rattle.bg_protocol.specs.Worlds.Interleavings.{AreSeenAs, over_devices}
+use Rattle.bg_protocol.specs.Worlds.Starts.{fresh_world}
+use Rattle.bg_protocol.specs.Worlds.Views.{KeeperView, LinkView, WorldView}
+use Rattle.bg_protocol.specs.Worlds.WorldRuns.{CallsAll}
+use Rattle.bg_protocol.specs.Worlds.WorldState.{IsReachedWorld}
+use Rattle.bg_protocol.specs.declared.events.Event.{Event}
+use Rattle.bg_protocol.specs.declared.events.Event.TheVariants as events
+use Rattle.bg_protocol.specs.declared.events.Outcome.{Outcome}
+use Rattle.bg_protocol.specs.declared.events.Outcome.TheVariants as outcomes
+use Rattle.bg_protocol.specs.declared.roles.Role.TheVariants as roles
+use Rattle.bg_protocol.proofs.ReachedWorlds.Interleaved.{interleaved}
+use Rattle.bg_protocol.proofs.Steps.Goes.{goes}
 use Rattle.bg_hosted.specs.HostedMatches.{setup_of, teller}
 use Rattle.bg_hosted.specs.Lives.{Begins, BeginsReached, GoesOnReached, HaveItsSlots, in_later_life}
 use Rattle.bg_hosted.specs.QueueLinks.{unused_queue}

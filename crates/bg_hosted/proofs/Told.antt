@@ -1,14 +1,14 @@
 -- What everybody is told.
 use Rattle.std.proofs.Common.{List, [], ◌∷◌, sym, subst, arith}
 use Rattle.std.specs.Prelude.{⊤}
-use Rattle.bg_world.proofs.ReachedWorlds.Upheld.{upholds}
-use Rattle.bg_world.proofs.Protocol.Reached.{agreement, reached}
-use Rattle.bg_world.proofs.Steps.Goes.{goes}
-use Rattle.bg_world.specs.Worlds.Views.{WorldView}
-use Rattle.bg_world.specs.Worlds.WorldRuns.{CallsAll}
-use Rattle.bg_world.specs.Worlds.WorldState.{IsReachedWorld, protocol_state}
-use Rattle.bg_world.specs.declared.events.Event.{Event}
-use Rattle.bg_world.specs.declared.events.Outcome.{Outcome}
+use Rattle.bg_protocol.proofs.ReachedWorlds.Upheld.{upholds}
+use Rattle.bg_protocol.proofs.Protocol.Reached.{agreement, reached}
+use Rattle.bg_protocol.proofs.Steps.Goes.{goes}
+use Rattle.bg_protocol.specs.Worlds.Views.{WorldView}
+use Rattle.bg_protocol.specs.Worlds.WorldRuns.{CallsAll}
+use Rattle.bg_protocol.specs.Worlds.WorldState.{IsReachedWorld, protocol_state}
+use Rattle.bg_protocol.specs.declared.events.Event.{Event}
+use Rattle.bg_protocol.specs.declared.events.Outcome.{Outcome}
 use Rattle.bg_hosted.specs.Laws.{StaysReached, TellsSavedAlone}
 
 after_calls : (events : List Event) (outcomes : List Outcome) (old new : WorldView)

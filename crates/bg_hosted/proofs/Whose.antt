@@ -14,9 +14,9 @@ use Rattle.bg_hosted.specs.Acting.{IsBy, IsSaidOf}
 use Rattle.bg_hosted.specs.HostedMatches.{IsWon}
 use Rattle.bg_hosted.specs.declared.acting.Acted.TheVariants.{Failed}
 use Rattle.bg_party.specs.declared.outcomes.ChooseFault.{ChooseFault}
-use Rattle.bg_world.specs.Worlds.Views.{WorldView}
-use Rattle.bg_world.specs.declared.events.Outcome.{Outcome}
-use Rattle.bg_world.specs.declared.events.Outcome.TheVariants.{Chose}
+use Rattle.bg_protocol.specs.Worlds.Views.{WorldView}
+use Rattle.bg_protocol.specs.declared.events.Outcome.{Outcome}
+use Rattle.bg_protocol.specs.declared.events.Outcome.TheVariants.{Chose}
 
 one_seat : (terms : Terms) (entries : List Entry) (one two : Option Player) → SeatAfter terms entries one
     → SeatAfter terms entries two → one ≡ two

@@ -6,14 +6,14 @@ use Rattle.bg_match.specs.Match.{Log, SeatAfter, at_number}
 use Rattle.bg_match.specs.declared.actions.Action.{Action}
 use Rattle.bg_match.specs.declared.entries.Entry.{Entry}
 use Rattle.bg_wire.specs.Parties.{party_of}
-use Rattle.bg_world.specs.Protocol.Roles.{role}
-use Rattle.bg_world.specs.Worlds.Calls.{Calls}
-use Rattle.bg_world.specs.Worlds.Nodes.{seat_claim}
-use Rattle.bg_world.specs.Worlds.Starts.{held_of}
-use Rattle.bg_world.specs.Worlds.Views.{WorldView, seat_core}
-use Rattle.bg_world.specs.declared.events.Event.TheVariants as events
-use Rattle.bg_world.specs.declared.events.Outcome.{Outcome}
-use Rattle.bg_world.specs.declared.events.Outcome.TheVariants as outcomes
+use Rattle.bg_protocol.specs.Protocol.Roles.{role}
+use Rattle.bg_protocol.specs.Worlds.Calls.{Calls}
+use Rattle.bg_protocol.specs.Worlds.Nodes.{seat_claim}
+use Rattle.bg_protocol.specs.Worlds.Starts.{held_of}
+use Rattle.bg_protocol.specs.Worlds.Views.{WorldView, seat_core}
+use Rattle.bg_protocol.specs.declared.events.Event.TheVariants as events
+use Rattle.bg_protocol.specs.declared.events.Outcome.{Outcome}
+use Rattle.bg_protocol.specs.declared.events.Outcome.TheVariants as outcomes
 use Rattle.bg_hosted.specs.Going.{GoesOn}
 use Rattle.bg_hosted.specs.HostedMatches.{count_of, told_of}
 use Rattle.bg_hosted.specs.declared.acting.Acted.{Acted}

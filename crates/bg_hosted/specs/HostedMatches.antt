@@ -5,12 +5,12 @@ use Rattle.bg_match.specs.Match.{Log, StandsAt}
 use Rattle.bg_match.specs.State.{State}
 use Rattle.bg_match.specs.Terms.{Terms, match_length, rules_of}
 use Rattle.bg_match.specs.declared.phases.Phase.TheVariants.{Over}
-use Rattle.bg_world.specs.Protocol.Roles.{role}
-use Rattle.bg_world.specs.Worlds.Starts.{fresh_world, held_of}
-use Rattle.bg_world.specs.Worlds.Views.{WorldView, keeper_view}
-use Rattle.bg_world.specs.declared.devices.Keeper as keeper
-use Rattle.bg_world.specs.declared.worlds.setups.Keepers.{Keepers}
-use Rattle.bg_world.specs.declared.worlds.setups.Setup.{Setup}
+use Rattle.bg_protocol.specs.Protocol.Roles.{role}
+use Rattle.bg_protocol.specs.Worlds.Starts.{fresh_world, held_of}
+use Rattle.bg_protocol.specs.Worlds.Views.{WorldView, keeper_view}
+use Rattle.bg_protocol.specs.declared.devices.Keeper as keeper
+use Rattle.bg_protocol.specs.declared.worlds.setups.Keepers.{Keepers}
+use Rattle.bg_protocol.specs.declared.worlds.setups.Setup.{Setup}
 use Rattle.bg_hosted.specs.QueueLinks.{queue_view, unused_queue}
 use Rattle.bg_hosted.specs.declared.hosted_matches.HostedMatch.{HostedMatch}
 

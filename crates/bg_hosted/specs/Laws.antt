@@ -1,10 +1,10 @@
 -- What holds of hosted matches over honest keepers.
 use Rattle.std.specs.Prelude.{◌≡◌, ⊤, Some}
 use Rattle.bg_match.specs.Match.{Log}
-use Rattle.bg_world.specs.Promises.Agreement.{IsPrefix}
-use Rattle.bg_world.specs.Protocol.State.{saved_log}
-use Rattle.bg_world.specs.Worlds.Views.{WorldView}
-use Rattle.bg_world.specs.Worlds.WorldState.{IsReachedWorld, protocol_state}
+use Rattle.bg_protocol.specs.Promises.Agreement.{IsPrefix}
+use Rattle.bg_protocol.specs.Protocol.State.{saved_log}
+use Rattle.bg_protocol.specs.Worlds.Views.{WorldView}
+use Rattle.bg_protocol.specs.Worlds.WorldState.{IsReachedWorld, protocol_state}
 use Rattle.bg_hosted.specs.Going.{GoesOn}
 use Rattle.bg_hosted.specs.HostedMatches.{told_of}
 

@@ -3,13 +3,13 @@
 use Rattle.std.specs.Prelude.{◌≡◌, ℕ, ◌++◌, List, None, length, ⊤}
 use Rattle.bg_wire.specs.Entries.Codes.{referee, seat_of_o, seat_of_x}
 use Rattle.bg_wire.specs.declared.packets.Datagram.{Datagram}
-use Rattle.bg_world.specs.Worlds.Calls.{Calls}
-use Rattle.bg_world.specs.Worlds.Starts.{fresh_world}
-use Rattle.bg_world.specs.Worlds.Views.{KeeperView, WorldView}
-use Rattle.bg_world.specs.Worlds.WorldState.{IsReachedWorld}
-use Rattle.bg_world.specs.declared.events.Event.{Event}
-use Rattle.bg_world.specs.declared.events.Event.TheVariants as events
-use Rattle.bg_world.specs.declared.events.Outcome.{Outcome}
+use Rattle.bg_protocol.specs.Worlds.Calls.{Calls}
+use Rattle.bg_protocol.specs.Worlds.Starts.{fresh_world}
+use Rattle.bg_protocol.specs.Worlds.Views.{KeeperView, WorldView}
+use Rattle.bg_protocol.specs.Worlds.WorldState.{IsReachedWorld}
+use Rattle.bg_protocol.specs.declared.events.Event.{Event}
+use Rattle.bg_protocol.specs.declared.events.Event.TheVariants as events
+use Rattle.bg_protocol.specs.declared.events.Outcome.{Outcome}
 use Rattle.bg_hosted.specs.Going.{GoesOn}
 use Rattle.bg_hosted.specs.HostedMatches.{setup_of}
 use Rattle.bg_hosted.specs.QueueLinks.{unused_queue}

@@ -1,7 +1,7 @@
 -- What contracts see of a queue.
 use Rattle.std.specs.Prelude.{[], None, Ok, length}
-use Rattle.bg_world.specs.Devices.Handed.{noted_answer}
-use Rattle.bg_world.specs.Worlds.Views.{LinkView}
+use Rattle.bg_protocol.specs.Devices.Handed.{noted_answer}
+use Rattle.bg_protocol.specs.Worlds.Views.{LinkView}
 use Rattle.bg_hosted.specs.declared.queue_links.QueueLink.{QueueLink}
 
 -- the queue as a world sees it; which of its sends fail is not known beforehand

@@ -28,7 +28,7 @@ pub enum Acted {
 
 impl<K: Keeper> HostedMatch<K> {
     ghost use Rattle.bg_hosted.specs.Acting.{Acts, ActsAgain, ActsNext, ActsOnce, IsAnsweredBy, IsSaidOf, TellsEntry};
-    ghost use Rattle.bg_world.specs.declared.events.Outcome.TheVariants.{Chose};
+    ghost use Rattle.bg_protocol.specs.declared.events.Outcome.TheVariants.{Chose};
     ghost use Rattle.bg_hosted.specs.Going.{GoesOn};
     ghost use Rattle.bg_hosted.specs.HostedMatches.{world_of};
 

@@ -1,9 +1,9 @@
 //! A match with all its parties in one process.
 ghost use Rattle.std.specs.Prelude.{◌≡◌, ◌↔◌, IfOk, IsTrue, option_copied};
 ghost use Rattle.bg_hosted.specs.HostedMatches.{IsWon};
-ghost use Rattle.bg_world.specs.Protocol.Roles.{role};
-ghost use Rattle.bg_world.specs.Worlds.Calls.{Calls};
-ghost use Rattle.bg_world.specs.Worlds.Starts.{held_of};
+ghost use Rattle.bg_protocol.specs.Protocol.Roles.{role};
+ghost use Rattle.bg_protocol.specs.Worlds.Calls.{Calls};
+ghost use Rattle.bg_protocol.specs.Worlds.Starts.{held_of};
 
 use crate::QueueLink;
 use bg_auto::DiceAttempts;

@@ -19,7 +19,6 @@ mod acting;
 mod hosted_matches;
 mod laws;
 mod queue_links;
-mod sent_histories;
 mod settling;
 mod waiting;
 

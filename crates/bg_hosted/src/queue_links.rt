@@ -1,6 +1,6 @@
 //! A link in memory that keeps only the datagrams that nobody has taken yet.
 ghost use Rattle.std.specs.Prelude.{◌≡◌, None, length};
-ghost use Rattle.bg_world.specs.Devices.Handed.{noted_answer};
+ghost use Rattle.bg_protocol.specs.Devices.Handed.{noted_answer};
 
 use crate::waiting::Waiting;
 use bg_streams::History;

@@ -5,8 +5,8 @@ ghost use Rattle.bg_hosted.specs.Queues.{most_waiting, were_sent};
 ghost use Rattle.bg_wire.specs.declared.packets.Datagram.{Datagram as Sent};
 
 use crate::MOST_WAITING;
-use crate::sent_histories::SentHistory;
 use arrayvec::ArrayVec;
+use bg_protocol::SentHistory;
 use bg_wire::Datagram;
 use bg_world::DeviceFault;
 use std::alloc::Global;

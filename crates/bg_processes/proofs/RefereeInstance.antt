@@ -2,14 +2,14 @@
 use Rattle.std.proofs.Common.{◌≡◌, ◌∙◌, ℕ, zero, suc, Some, refl, sym, ap, ap₂, subst, arith}
 use Rattle.std.specs.Prelude.{⊤}
 use Rattle.bg_board.specs.declared.players.Player.TheVariants.{X, O}
-use Rattle.bg_world.specs.Worlds.Interleavings.{NodeCalls, over_devices, referee_node, with_referee_node}
-use Rattle.bg_world.specs.Worlds.Nodes.{RefereeNodeDues, RefereeNodeRestarts, RefereeNodeSaves, RefereeNodeTakes, RefereeNodeTicks, RefereeNodeView}
-use Rattle.bg_world.specs.Worlds.Views.{KeeperView, LinkView, WorldView, parties}
-use Rattle.bg_world.specs.declared.events.Event.{Event}
-use Rattle.bg_world.specs.declared.events.Event.TheVariants as events
-use Rattle.bg_world.specs.declared.events.Outcome.{Outcome}
-use Rattle.bg_world.specs.declared.roles.Role.{Role}
-use Rattle.bg_world.specs.declared.roles.Role.TheVariants as roles
+use Rattle.bg_protocol.specs.Worlds.Interleavings.{NodeCalls, over_devices, referee_node, with_referee_node}
+use Rattle.bg_protocol.specs.Worlds.Nodes.{RefereeNodeDues, RefereeNodeRestarts, RefereeNodeSaves, RefereeNodeTakes, RefereeNodeTicks, RefereeNodeView}
+use Rattle.bg_protocol.specs.Worlds.Views.{KeeperView, LinkView, WorldView, parties}
+use Rattle.bg_protocol.specs.declared.events.Event.{Event}
+use Rattle.bg_protocol.specs.declared.events.Event.TheVariants as events
+use Rattle.bg_protocol.specs.declared.events.Outcome.{Outcome}
+use Rattle.bg_protocol.specs.declared.roles.Role.{Role}
+use Rattle.bg_protocol.specs.declared.roles.Role.TheVariants as roles
 use Rattle.bg_processes.specs.Instances.{IsInstance, IsSameParty, RunsReferee}
 use Rattle.bg_processes.specs.RefereeRounds.{RefereeCalls, RefereeHappens, RefereeMoment}
 use Rattle.bg_processes.specs.Rounds.{most_parties}

@@ -1,8 +1,8 @@
 -- An event that happens again and again, up to the first outcome that is the last.
 use Rattle.std.proofs.Common.{◌≡◌, ◌<◌, ◌≤◌, ◌+◌, ◌-◌, ℕ, suc, Bool, true, false, refl, sym, subst, arith}
 use Rattle.std.specs.Bool.{MatchBool}
-use Rattle.bg_world.specs.declared.events.Event.{Event}
-use Rattle.bg_world.specs.declared.events.Outcome.{Outcome}
+use Rattle.bg_protocol.specs.declared.events.Event.{Event}
+use Rattle.bg_protocol.specs.declared.events.Outcome.{Outcome}
 use Rattle.bg_processes.specs.Runs.{Repeats}
 
 module _ {M : Type 0} (Happens : M → Event → Outcome → M → Type 0) (event : M → Event) (is_last : Outcome → Bool) where

@@ -5,10 +5,10 @@ use Rattle.std.specs.Bool.{MatchBool}
 use Rattle.bg_match.specs.declared.actions.Action.{Action}
 use Rattle.bg_wire.specs.Entries.Codes.{referee}
 use Rattle.bg_wire.specs.Parties.{party_of}
-use Rattle.bg_world.specs.declared.events.Event.{Event}
-use Rattle.bg_world.specs.declared.events.Event.TheVariants as events
-use Rattle.bg_world.specs.declared.events.Outcome.{Outcome}
-use Rattle.bg_world.specs.declared.events.Outcome.TheVariants as outcomes
+use Rattle.bg_protocol.specs.declared.events.Event.{Event}
+use Rattle.bg_protocol.specs.declared.events.Event.TheVariants as events
+use Rattle.bg_protocol.specs.declared.events.Outcome.{Outcome}
+use Rattle.bg_protocol.specs.declared.events.Outcome.TheVariants as outcomes
 use Rattle.bg_processes.specs.RefereeRounds as r
 use Rattle.bg_processes.specs.SeatRounds as s
 use Rattle.bg_processes.specs.WatcherRounds as w

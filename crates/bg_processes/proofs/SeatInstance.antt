@@ -4,15 +4,15 @@ use Rattle.std.specs.Prelude.{⊤}
 use Rattle.bg_board.specs.declared.players.Player.{Player}
 use Rattle.bg_board.specs.declared.players.Player.TheVariants.{X, O}
 use Rattle.bg_wire.specs.Parties.{party_of}
-use Rattle.bg_world.specs.Protocol.Roles.{role}
-use Rattle.bg_world.specs.Worlds.Interleavings.{NodeCalls, NodeRestarts, NodeSaves, NodeTakes, NodeTicks, over_devices, seat_node, with_seat_node}
-use Rattle.bg_world.specs.Worlds.Nodes.{SeatNodeChooses, SeatNodeRestarts, SeatNodeSaves, SeatNodeTakes, SeatNodeTicks, SeatNodeView}
-use Rattle.bg_world.specs.Worlds.Views.{KeeperView, LinkView, WorldView, parties, seat_keeper, with_seat_keeper}
-use Rattle.bg_world.specs.declared.events.Event.{Event}
-use Rattle.bg_world.specs.declared.events.Event.TheVariants as events
-use Rattle.bg_world.specs.declared.events.Outcome.{Outcome}
-use Rattle.bg_world.specs.declared.roles.Role.{Role}
-use Rattle.bg_world.specs.declared.roles.Role.TheVariants as roles
+use Rattle.bg_protocol.specs.Protocol.Roles.{role}
+use Rattle.bg_protocol.specs.Worlds.Interleavings.{NodeCalls, NodeRestarts, NodeSaves, NodeTakes, NodeTicks, over_devices, seat_node, with_seat_node}
+use Rattle.bg_protocol.specs.Worlds.Nodes.{SeatNodeChooses, SeatNodeRestarts, SeatNodeSaves, SeatNodeTakes, SeatNodeTicks, SeatNodeView}
+use Rattle.bg_protocol.specs.Worlds.Views.{KeeperView, LinkView, WorldView, parties, seat_keeper, with_seat_keeper}
+use Rattle.bg_protocol.specs.declared.events.Event.{Event}
+use Rattle.bg_protocol.specs.declared.events.Event.TheVariants as events
+use Rattle.bg_protocol.specs.declared.events.Outcome.{Outcome}
+use Rattle.bg_protocol.specs.declared.roles.Role.{Role}
+use Rattle.bg_protocol.specs.declared.roles.Role.TheVariants as roles
 use Rattle.bg_processes.specs.Instances.{IsInstance, IsSameParty, RunsSeat}
 use Rattle.bg_processes.specs.Rounds.{most_parties}
 use Rattle.bg_processes.specs.SeatRounds.{SeatCalls, SeatHappens, SeatMoment}

@@ -1,12 +1,12 @@
 -- What happens at the process of a party is calls of processes in a world, if each event is.
 use Rattle.std.proofs.Common.{◌≡◌, ◌∙◌, [], ◌∷◌, Option, Some, None, refl, sym, subst}
 use Rattle.std.specs.Prelude.{MatchOption, ⊤}
-use Rattle.bg_world.specs.Worlds.Interleavings.{AreSeenAs, NodeCalls, over_devices}
-use Rattle.bg_world.specs.Worlds.Views.{KeeperView, LinkView, WorldView, parties}
-use Rattle.bg_world.specs.declared.events.Event.{Event}
-use Rattle.bg_world.specs.declared.events.Outcome.{Outcome}
-use Rattle.bg_world.specs.declared.roles.Role.{Role}
-use Rattle.bg_world.specs.declared.roles.Role.TheVariants as roles
+use Rattle.bg_protocol.specs.Worlds.Interleavings.{AreSeenAs, NodeCalls, over_devices}
+use Rattle.bg_protocol.specs.Worlds.Views.{KeeperView, LinkView, WorldView, parties}
+use Rattle.bg_protocol.specs.declared.events.Event.{Event}
+use Rattle.bg_protocol.specs.declared.events.Outcome.{Outcome}
+use Rattle.bg_protocol.specs.declared.roles.Role.{Role}
+use Rattle.bg_protocol.specs.declared.roles.Role.TheVariants as roles
 use Rattle.bg_processes.specs.Instances.{IsInstance, IsSameParty, OthersStay}
 use Rattle.bg_processes.specs.Rounds.{most_parties}
 

@@ -6,18 +6,18 @@ use Rattle.bg_board.specs.declared.players.Player.TheVariants.{X, O}
 use Rattle.bg_party.specs.Claims.{WatcherTicks}
 use Rattle.bg_party.specs.Views.{WatcherView}
 use Rattle.bg_wire.specs.Entries.Codes.{first_watcher}
-use Rattle.bg_world.specs.Devices.LinkCalls.{FollowerTakeCalls, FollowerTickCalls}
-use Rattle.bg_world.specs.Protocol.Roles.{role}
-use Rattle.bg_world.specs.Worlds.Calls.{NoCalls, WatcherTakes}
-use Rattle.bg_world.specs.Worlds.Interleavings.{NodeCalls, NodeTakes, NodeTicks, over_devices}
-use Rattle.bg_world.specs.Worlds.Views.{LinkView, WorldView, parties}
-use Rattle.bg_world.specs.declared.events.Event.{Event}
-use Rattle.bg_world.specs.declared.events.Event.TheVariants as events
-use Rattle.bg_world.specs.declared.events.Outcome.{Outcome}
-use Rattle.bg_world.specs.declared.events.Outcome.TheVariants as outcomes
-use Rattle.bg_world.specs.declared.roles.Role.{Role}
-use Rattle.bg_world.specs.declared.roles.Role.TheVariants as roles
-use Rattle.bg_world.proofs.ReachedWorlds.Numbered.{take_keeps, tick_keeps}
+use Rattle.bg_protocol.specs.Devices.LinkCalls.{FollowerTakeCalls, FollowerTickCalls}
+use Rattle.bg_protocol.specs.Protocol.Roles.{role}
+use Rattle.bg_protocol.specs.Worlds.Calls.{NoCalls, WatcherTakes}
+use Rattle.bg_protocol.specs.Worlds.Interleavings.{NodeCalls, NodeTakes, NodeTicks, over_devices}
+use Rattle.bg_protocol.specs.Worlds.Views.{LinkView, WorldView, parties}
+use Rattle.bg_protocol.specs.declared.events.Event.{Event}
+use Rattle.bg_protocol.specs.declared.events.Event.TheVariants as events
+use Rattle.bg_protocol.specs.declared.events.Outcome.{Outcome}
+use Rattle.bg_protocol.specs.declared.events.Outcome.TheVariants as outcomes
+use Rattle.bg_protocol.specs.declared.roles.Role.{Role}
+use Rattle.bg_protocol.specs.declared.roles.Role.TheVariants as roles
+use Rattle.bg_protocol.proofs.ReachedWorlds.Numbered.{take_keeps, tick_keeps}
 use Rattle.bg_processes.specs.Instances.{IsInstance, IsSameParty, RunsWatcher}
 use Rattle.bg_processes.specs.Rounds.{most_parties}
 use Rattle.bg_processes.specs.WatcherRounds.{WatcherCalls, WatcherHappens, WatcherMoment}

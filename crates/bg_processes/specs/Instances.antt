@@ -3,12 +3,12 @@
 use Rattle.std.specs.Prelude.{◌≡◌, ◌+◌, ℕ, List, Some, map, slice_get}
 use Rattle.bg_board.specs.declared.players.Player.{Player}
 use Rattle.bg_wire.specs.Entries.Codes.{first_watcher}
-use Rattle.bg_world.specs.Worlds.Interleavings.{Interleaves, referee_node, seat_node}
-use Rattle.bg_world.specs.Worlds.Views.{WorldView, parties, seat_core, seat_keeper}
-use Rattle.bg_world.specs.declared.events.Event.{Event}
-use Rattle.bg_world.specs.declared.events.Outcome.{Outcome}
-use Rattle.bg_world.specs.declared.roles.Role.{Role}
-use Rattle.bg_world.specs.declared.roles.Role.TheVariants as roles
+use Rattle.bg_protocol.specs.Worlds.Interleavings.{Interleaves, referee_node, seat_node}
+use Rattle.bg_protocol.specs.Worlds.Views.{WorldView, parties, seat_core, seat_keeper}
+use Rattle.bg_protocol.specs.declared.events.Event.{Event}
+use Rattle.bg_protocol.specs.declared.events.Outcome.{Outcome}
+use Rattle.bg_protocol.specs.declared.roles.Role.{Role}
+use Rattle.bg_protocol.specs.declared.roles.Role.TheVariants as roles
 use Rattle.bg_processes.specs.RefereeRounds.{RefereeMoment}
 use Rattle.bg_processes.specs.Rounds.{most_parties}
 use Rattle.bg_processes.specs.Runs.{Runs}

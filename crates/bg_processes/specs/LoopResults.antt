@@ -1,8 +1,8 @@
 -- What a match over sockets and files comes to, and what the output gets.
 use Rattle.std.specs.Prelude.{◌≡◌, ℕ, Result, Err}
 use Rattle.bg_streams.specs.declared.devices.Sink.{Ghosts as SinkGhosts}
-use Rattle.bg_world.specs.Worlds.Views.{KeeperView, LinkView}
-use Rattle.bg_world.specs.declared.worlds.setups.Setup.{Setup}
+use Rattle.bg_protocol.specs.Worlds.Views.{KeeperView, LinkView}
+use Rattle.bg_protocol.specs.declared.worlds.setups.Setup.{Setup}
 use Rattle.bg_auto.specs.RoundResults.{IsRoundsResult, start_moment}
 use Rattle.bg_auto.specs.declared.loop_faults.LoopFault.{LoopFault}
 use Rattle.bg_auto.specs.declared.loop_faults.LoopFault.TheVariants.{Memory, Socket}

@@ -7,15 +7,15 @@ use Rattle.bg_match.specs.Terms.{Terms}
 use Rattle.bg_wire.specs.Entries.Codes.{referee}
 use Rattle.bg_referee.specs.declared.outcomes.DueFault.TheVariants as due
 use Rattle.bg_referee.specs.declared.outcomes.TakeOutcome.TheVariants as takes
-use Rattle.bg_world.specs.Worlds.Nodes.{RefereeNodeDues, RefereeNodeRestarts, RefereeNodeSaves, RefereeNodeTakes, RefereeNodeTicks, RefereeNodeView, fresh_referee_node, referee_node_of}
-use Rattle.bg_world.specs.Worlds.Starts.{referee_log}
-use Rattle.bg_world.specs.Worlds.Views.{KeeperView, LinkView, keeper_view, link_view}
-use Rattle.bg_world.specs.declared.devices.Keeper as keeper
-use Rattle.bg_world.specs.declared.devices.Link as link
-use Rattle.bg_world.specs.declared.events.Event.{Event}
-use Rattle.bg_world.specs.declared.events.Event.TheVariants as events
-use Rattle.bg_world.specs.declared.events.Outcome.{Outcome}
-use Rattle.bg_world.specs.declared.events.Outcome.TheVariants as outcomes
+use Rattle.bg_protocol.specs.Worlds.Nodes.{RefereeNodeDues, RefereeNodeRestarts, RefereeNodeSaves, RefereeNodeTakes, RefereeNodeTicks, RefereeNodeView, fresh_referee_node, referee_node_of}
+use Rattle.bg_protocol.specs.Worlds.Starts.{referee_log}
+use Rattle.bg_protocol.specs.Worlds.Views.{KeeperView, LinkView, keeper_view, link_view}
+use Rattle.bg_protocol.specs.declared.devices.Keeper as keeper
+use Rattle.bg_protocol.specs.declared.devices.Link as link
+use Rattle.bg_protocol.specs.declared.events.Event.{Event}
+use Rattle.bg_protocol.specs.declared.events.Event.TheVariants as events
+use Rattle.bg_protocol.specs.declared.events.Outcome.{Outcome}
+use Rattle.bg_protocol.specs.declared.events.Outcome.TheVariants as outcomes
 use Rattle.bg_auto.specs.Attempts.{Notes, held_entries, keyed_word_for, restarts_referee}
 use Rattle.bg_processes.specs.Rounds.{GoesWhere, IsOverAndSaved, count_of, ends_takes, most_parties, most_taken, saved_after}
 use Rattle.bg_processes.specs.Runs.{Repeats, Restarts, Runs, Saves}

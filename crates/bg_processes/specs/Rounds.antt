@@ -3,10 +3,10 @@ use Rattle.std.specs.Prelude.{◌≡◌, ℕ, Bool, true, false, if◌then◌els
 use Rattle.std.specs.Bool.{OnFalse, OnTrue}
 use Rattle.bg_match.specs.Match.{ActsAfter, Log}
 use Rattle.bg_match.specs.declared.phases.Actor.TheVariants.{Nobody}
-use Rattle.bg_world.specs.declared.events.Event.{Event}
-use Rattle.bg_world.specs.declared.events.Event.TheVariants as events
-use Rattle.bg_world.specs.declared.events.Outcome.{Outcome}
-use Rattle.bg_world.specs.declared.events.Outcome.TheVariants as outcomes
+use Rattle.bg_protocol.specs.declared.events.Event.{Event}
+use Rattle.bg_protocol.specs.declared.events.Event.TheVariants as events
+use Rattle.bg_protocol.specs.declared.events.Outcome.{Outcome}
+use Rattle.bg_protocol.specs.declared.events.Outcome.TheVariants as outcomes
 use Rattle.bg_processes.specs.declared.processes.rounds.Going.{Going}
 use Rattle.bg_processes.specs.declared.processes.rounds.Going.TheVariants.{On, Over}
 

@@ -2,11 +2,11 @@
 -- is another's to say.
 use Rattle.std.specs.Prelude.{◌≡◌, ℕ, zero, suc, Bool, true, false, List, [], ◌∷◌, Result, Ok, Err}
 use Rattle.std.specs.Bool.{MatchBool}
-use Rattle.bg_world.specs.declared.events.Event.{Event}
-use Rattle.bg_world.specs.declared.events.Event.TheVariants as events
-use Rattle.bg_world.specs.declared.events.Outcome.{Outcome}
-use Rattle.bg_world.specs.declared.events.Outcome.TheVariants as outcomes
-use Rattle.bg_world.specs.declared.events.RestoreCause.TheVariants as causes
+use Rattle.bg_protocol.specs.declared.events.Event.{Event}
+use Rattle.bg_protocol.specs.declared.events.Event.TheVariants as events
+use Rattle.bg_protocol.specs.declared.events.Outcome.{Outcome}
+use Rattle.bg_protocol.specs.declared.events.Outcome.TheVariants as outcomes
+use Rattle.bg_protocol.specs.declared.events.RestoreCause.TheVariants as causes
 
 -- a party that was restarted is up, and nothing was written; where its slots can't be read now, it
 -- is down until a later round restarts it; any other reason why it is down ends its process

@@ -8,15 +8,15 @@ use Rattle.bg_match.specs.Terms.{Terms}
 use Rattle.bg_match.specs.declared.actions.Action.{Action}
 use Rattle.bg_match.specs.declared.phases.Actor.TheVariants.{Seat}
 use Rattle.bg_wire.specs.Parties.{party_of}
-use Rattle.bg_world.specs.Worlds.Nodes.{SeatNodeChooses, SeatNodeRestarts, SeatNodeSaves, SeatNodeTakes, SeatNodeTicks, SeatNodeView, fresh_seat_node, seat_claim, seat_node_of}
-use Rattle.bg_world.specs.Worlds.Starts.{seat_log}
-use Rattle.bg_world.specs.Worlds.Views.{KeeperView, LinkView, keeper_view, link_view}
-use Rattle.bg_world.specs.declared.devices.Keeper as keeper
-use Rattle.bg_world.specs.declared.devices.Link as link
-use Rattle.bg_world.specs.declared.events.Event.{Event}
-use Rattle.bg_world.specs.declared.events.Event.TheVariants as events
-use Rattle.bg_world.specs.declared.events.Outcome.{Outcome}
-use Rattle.bg_world.specs.declared.events.Outcome.TheVariants as outcomes
+use Rattle.bg_protocol.specs.Worlds.Nodes.{SeatNodeChooses, SeatNodeRestarts, SeatNodeSaves, SeatNodeTakes, SeatNodeTicks, SeatNodeView, fresh_seat_node, seat_claim, seat_node_of}
+use Rattle.bg_protocol.specs.Worlds.Starts.{seat_log}
+use Rattle.bg_protocol.specs.Worlds.Views.{KeeperView, LinkView, keeper_view, link_view}
+use Rattle.bg_protocol.specs.declared.devices.Keeper as keeper
+use Rattle.bg_protocol.specs.declared.devices.Link as link
+use Rattle.bg_protocol.specs.declared.events.Event.{Event}
+use Rattle.bg_protocol.specs.declared.events.Event.TheVariants as events
+use Rattle.bg_protocol.specs.declared.events.Outcome.{Outcome}
+use Rattle.bg_protocol.specs.declared.events.Outcome.TheVariants as outcomes
 use Rattle.bg_auto.specs.Attempts.{held_entries}
 use Rattle.bg_processes.specs.Rounds.{GoesWhere, IsOver, IsOverAndSaved, Tells, count_of, ends_takes, keeps_all, most_parties, most_taken, saved_after}
 use Rattle.bg_processes.specs.Runs.{Repeats, Restarts, Runs, Saves}

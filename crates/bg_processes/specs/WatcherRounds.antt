@@ -5,13 +5,13 @@ use Rattle.bg_match.specs.Match.{Log}
 use Rattle.bg_match.specs.Terms.{Terms}
 use Rattle.bg_party.specs.Claims.{WatcherTicks}
 use Rattle.bg_party.specs.Views.{WatcherView, fresh_watcher}
-use Rattle.bg_world.specs.Devices.LinkCalls.{FollowerTakeCalls, FollowerTickCalls}
-use Rattle.bg_world.specs.Worlds.Calls.{WatcherTakes}
-use Rattle.bg_world.specs.Worlds.Views.{LinkView, link_view}
-use Rattle.bg_world.specs.declared.devices.Link as link
-use Rattle.bg_world.specs.declared.events.Event.{Event}
-use Rattle.bg_world.specs.declared.events.Event.TheVariants as events
-use Rattle.bg_world.specs.declared.events.Outcome.{Outcome}
+use Rattle.bg_protocol.specs.Devices.LinkCalls.{FollowerTakeCalls, FollowerTickCalls}
+use Rattle.bg_protocol.specs.Worlds.Calls.{WatcherTakes}
+use Rattle.bg_protocol.specs.Worlds.Views.{LinkView, link_view}
+use Rattle.bg_protocol.specs.declared.devices.Link as link
+use Rattle.bg_protocol.specs.declared.events.Event.{Event}
+use Rattle.bg_protocol.specs.declared.events.Event.TheVariants as events
+use Rattle.bg_protocol.specs.declared.events.Outcome.{Outcome}
 use Rattle.bg_processes.specs.Rounds.{IsOver, ends_takes, most_parties, most_taken}
 use Rattle.bg_processes.specs.Runs.{Repeats, Runs}
 use Rattle.bg_processes.specs.declared.processes.rounds.Going.{Going}

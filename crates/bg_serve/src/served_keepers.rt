@@ -1,6 +1,6 @@
 //! The keepers of matches that are served.
 ghost use Rattle.std.specs.Prelude.{None, length};
-ghost use Rattle.bg_world.specs.Protocol.Slots.{empty_slots};
+ghost use Rattle.bg_protocol.specs.Protocol.Slots.{empty_slots};
 
 use crate::served_files::ServedFiles;
 use bg_streams::History;

@@ -5,7 +5,7 @@ use Rattle.std.proofs.lemmas.Option.{slice_get-get_or}
 use Rattle.bg_board.specs.declared.players.Player.{Player}
 use Rattle.bg_hosted.specs.declared.hosted_matches.HostedMatch.{HostedMatch}
 use Rattle.bg_match.specs.Match.{Log}
-use Rattle.bg_world.specs.declared.devices.Keeper as keeper
+use Rattle.bg_protocol.specs.declared.devices.Keeper as keeper
 use Rattle.bg_site.specs.Given.{IsGivenOf}
 use Rattle.bg_site.specs.Places.{HasSeatAt, IsGivenAt, player_in, told_in}
 use Rattle.bg_site.specs.declared.files.Asked.{Asked}

@@ -6,7 +6,7 @@ use Rattle.bg_hosted.specs.HostedMatches.{told_of, world_of}
 use Rattle.bg_match.specs.Match.{Log}
 use Rattle.bg_requests.specs.Seats.{player_with}
 use Rattle.bg_requests.specs.declared.seats.Seats.{Seats}
-use Rattle.bg_world.specs.declared.devices.Keeper as keeper
+use Rattle.bg_protocol.specs.declared.devices.Keeper as keeper
 use Rattle.bg_site.specs.Given.{IsGivenOf}
 use Rattle.bg_site.specs.declared.files.Asked.{Asked}
 use Rattle.bg_site.specs.declared.files.Given.{Given}

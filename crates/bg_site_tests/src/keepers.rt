@@ -1,6 +1,6 @@
 //! Keepers in memory, whose slots outlive a match, and whose writes fail where that is wanted.
 ghost use Rattle.std.specs.Prelude.{None, length};
-ghost use Rattle.bg_world.specs.Protocol.Slots.{empty_slots};
+ghost use Rattle.bg_protocol.specs.Protocol.Slots.{empty_slots};
 
 use crate::lasting::lasting;
 use bg_streams::History;

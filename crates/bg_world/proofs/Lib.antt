@@ -1,8 +1,1 @@
-pub mod Protocol
-pub mod Deliveries
-pub mod Steps
-pub mod ReachedWorlds
-pub mod Outcomes
 pub mod Lines
-pub mod Seats
-pub mod TwoSteps

@@ -1,5 +1,1 @@
-pub mod Protocol
-pub mod Promises
-pub mod Devices
-pub mod Worlds
 pub mod Texts

@@ -22,33 +22,18 @@
 //! ```
 #![tactic(auto)]
 
-mod devices;
-mod events;
 mod fault_words;
-mod nodes;
-mod roles;
 mod texts;
-mod worlds;
 
-pub use devices::memory_keeper::MemoryKeeper;
-pub use devices::memory_net::MemoryNet;
-pub use devices::notes::{count_failed, note_taken};
-pub use devices::plans::{FailRead, FailSend, Plan, Tear};
-pub use devices::{DeviceFault, Keeper, Link, Taken};
-pub use events::{Event, Outcome, RestoreCause};
-pub(crate) use nodes::Watchers;
-pub use nodes::{RefereeNode, Save, SeatNode, WatcherNode};
-pub use roles::Role;
+pub use bg_protocol::{
+    DeviceFault, Event, FailRead, FailSend, Keeper, Keepers, Link, MOST_WATCHERS, MemoryKeeper,
+    MemoryNet, Outcome, Plan, RefereeNode, RestoreCause, Role, RunReport, Save, SeatNode, Setup,
+    Taken, Tear, WatcherNode, World, WorldFault, claims_are_kept, count_failed,
+    memory_is_seen_as_any_device, new_worlds_are_at_the_start, note_taken, nothing_is_refused,
+    outcomes_are_fixed, parties_agree, processes_agree, saved_entries_alone_are_shown,
+    saves_survive, simulate, slots_are_given_back, two_steps_are_a_save,
+};
 pub use texts::event_lines::{event_texts_differ, parse_event};
 pub use texts::final_texts::final_text;
 pub use texts::outcome_texts::{outcome_text, outcome_texts_differ};
 pub use texts::scripts::{ScriptFault, script};
-pub use worlds::World;
-pub use worlds::laws::{
-    claims_are_kept, memory_is_seen_as_any_device, new_worlds_are_at_the_start, nothing_is_refused,
-    outcomes_are_fixed, parties_agree, processes_agree, saved_entries_alone_are_shown,
-    saves_survive, slots_are_given_back, two_steps_are_a_save,
-};
-pub use worlds::runs::RunReport;
-pub use worlds::setups::{Keepers, MOST_WATCHERS, Setup, WorldFault};
-pub use worlds::simulations::simulate;

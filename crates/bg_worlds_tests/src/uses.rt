@@ -1,9 +1,32 @@
-//! The lines of use in the documentation of the fence, run (`tools/checks/check_uses` compares
-//! them).
+//! The lines of use in the documentation of worlds and of the fence, run
+//! (`tools/checks/check_uses` compares them).
 use bg_fences::{FencedMemoryKeeper, save_referee};
 use bg_match::{Rules, Terms};
-use bg_world::{Outcome, RefereeNode};
+use bg_protocol::{Event, Outcome, Plan, RefereeNode, Setup, simulate};
 use std::test::Fail;
+
+#[test]
+fn worlds(rt: HostRuntime) -> Result<(), Fail> {
+    let alloc = rt.alloc();
+    // bg_protocol
+    let setup = Setup {
+        id: 1,
+        length: 5,
+        rules: Rules::One,
+        watchers: 0,
+    };
+    let no_failures = Plan {
+        tears: Vec::new(alloc),
+        sends: Vec::new(alloc),
+        reads: Vec::new(alloc),
+    };
+    let events = [Event::Due { word: 12 }, Event::Save { party: 0 }];
+    let (mut world, report) = simulate(alloc, setup, &no_failures, &events)?;
+    assert!(rt; report.done == 2 && report.faults == 0);
+    assert!(rt; world.step(Event::Tick { party: 1 }) == Outcome::Sent(1));
+    // end
+    Ok(())
+}
 
 #[test]
 fn fences(rt: HostRuntime) -> Result<(), Fail> {

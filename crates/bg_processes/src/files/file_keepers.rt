@@ -1,6 +1,6 @@
 //! Files that keep the saved texts of a party.
 ghost use Rattle.std.specs.Prelude.{None, length};
-ghost use Rattle.bg_world.specs.Protocol.Slots.{empty_slots};
+ghost use Rattle.bg_protocol.specs.Protocol.Slots.{empty_slots};
 
 use crate::answers::answered;
 use bg_streams::History;

@@ -1,7 +1,7 @@
 //! Laws of processes. Each is the contract of a function that does nothing.
 ghost use Rattle.std.specs.Prelude.{ℕ, ⊤};
 ghost use Rattle.bg_board.specs.declared.players.Player.{Player as APlayer};
-ghost use Rattle.bg_world.specs.declared.roles.Role.TheVariants as roles;
+ghost use Rattle.bg_protocol.specs.declared.roles.Role.TheVariants as roles;
 ghost use Rattle.bg_processes.specs.Liveness.{CountsSilence};
 ghost use Rattle.bg_processes.specs.Instances.{IsInstance, RunsReferee, RunsSeat, RunsWatcher};
 ghost use Rattle.bg_processes.specs.RefereeRounds.{RefereeHappens};

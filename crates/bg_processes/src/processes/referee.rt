@@ -3,7 +3,7 @@ ghost use Rattle.std.specs.Prelude.{◌≡◌, ◌↔◌, ◌||◌, IsOk, IfOk, 
 ghost use Rattle.bg_match.specs.Limits.{IsMatchLength};
 ghost use Rattle.bg_match.specs.Terms.{match_length};
 ghost use Rattle.bg_wire.specs.Entries.Codes.{referee as referee_party};
-ghost use Rattle.bg_world.specs.Worlds.Views.{keeper_view, link_view};
+ghost use Rattle.bg_protocol.specs.Worlds.Views.{keeper_view, link_view};
 ghost use Rattle.bg_processes.specs.RefereeRounds.{EndsRound, IsServed, PlaysRefereeRound, RefereeBegins};
 ghost use Rattle.bg_processes.specs.RefereeRounds.{RefereeHappens, RefereeRepeats, RunsRefereeRound, SavesNews};
 ghost use Rattle.bg_processes.specs.RefereeRounds.{due_at, ends_dues as is_last_due, ends_pushes as is_last_push};

@@ -2,7 +2,7 @@
 ghost use Rattle.std.specs.Prelude.{◌≡◌, ◌↔◌, IsOk, IfOk, option_copied};
 ghost use Rattle.bg_match.specs.Limits.{IsMatchLength};
 ghost use Rattle.bg_match.specs.Terms.{match_length};
-ghost use Rattle.bg_world.specs.Worlds.Views.{keeper_view, link_view};
+ghost use Rattle.bg_protocol.specs.Worlds.Views.{keeper_view, link_view};
 ghost use Rattle.bg_processes.specs.Rounds.{IsOverAndSaved, GoesWhere, Tells, ends_takes as is_last_take, most_taken};
 ghost use Rattle.bg_processes.specs.Runs.{Repeats};
 ghost use Rattle.bg_processes.specs.SeatRounds.{IsToAct, PlaysChoice, PlaysSeatRound, RunsSeat, SavesClaim};

@@ -3,7 +3,7 @@ ghost use Rattle.std.specs.Prelude.{◌≡◌, ◌≤◌, ◌↔◌, IsOk, IfOk}
 ghost use Rattle.bg_match.specs.Limits.{IsMatchLength};
 ghost use Rattle.bg_match.specs.Terms.{match_length};
 ghost use Rattle.bg_wire.specs.Entries.Codes.{first_watcher};
-ghost use Rattle.bg_world.specs.Worlds.Views.{link_view};
+ghost use Rattle.bg_protocol.specs.Worlds.Views.{link_view};
 ghost use Rattle.bg_processes.specs.Rounds.{ends_takes as is_last_take, most_taken};
 ghost use Rattle.bg_processes.specs.Runs.{Repeats};
 ghost use Rattle.bg_processes.specs.WatcherRounds.{PlaysWatcherRound, RunsWatcher, SendsWhere, WatcherBegins};

@@ -94,7 +94,7 @@ impl<'a, C: Clock> PartySocket<'a, C> {
 
 impl<'a, C: Clock> Link for PartySocket<'a, C> {
     ghost use Rattle.std.specs.Prelude.{None, []};
-    ghost use Rattle.bg_world.specs.Devices.Handed.{noted_answer};
+    ghost use Rattle.bg_protocol.specs.Devices.Handed.{noted_answer};
 
     // Nothing is claimed of honesty, and so nothing of what was sent either.
     ghost is_honest = { ⊥ };

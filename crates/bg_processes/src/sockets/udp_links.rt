@@ -53,7 +53,7 @@ impl<'a> UdpLink<'a> {
 
 impl<'a> Link for UdpLink<'a> {
     ghost use Rattle.std.specs.Prelude.{None, []};
-    ghost use Rattle.bg_world.specs.Devices.Handed.{noted_answer};
+    ghost use Rattle.bg_protocol.specs.Devices.Handed.{noted_answer};
 
     // Nothing is claimed of honesty, and so nothing of what was sent either.
     ghost is_honest = { ⊥ };

@@ -1,7 +1,7 @@
 //! Devices of which one call fails.
 ghost use Rattle.std.specs.Prelude.{[], None, length};
-ghost use Rattle.bg_world.specs.Devices.Handed.{noted_answer};
-ghost use Rattle.bg_world.specs.Protocol.Slots.{empty_slots};
+ghost use Rattle.bg_protocol.specs.Devices.Handed.{noted_answer};
+ghost use Rattle.bg_protocol.specs.Protocol.Slots.{empty_slots};
 
 use bg_streams::History;
 use bg_system::Failures;

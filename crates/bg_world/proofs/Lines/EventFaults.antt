@@ -20,8 +20,8 @@ use Rattle.bg_world.specs.Texts.EventText.{HasRightNumbers, IsEvent, IsEventShap
 use Rattle.bg_world.specs.Texts.EventLines.{IsEventOf, IsNumberUpTo, kind_start, take_of}
 use Rattle.bg_world.specs.declared.texts.event_lines.EventKind.{EventKind}
 use Rattle.bg_world.specs.declared.texts.event_lines.EventKind.TheVariants as kind
-use Rattle.bg_world.specs.declared.events.Event.{Event}
-use Rattle.bg_world.specs.declared.events.Event.TheVariants as event
+use Rattle.bg_protocol.specs.declared.events.Event.{Event}
+use Rattle.bg_protocol.specs.declared.events.Event.TheVariants as event
 use Rattle.bg_world.proofs.Lines.EventKinds.{kind_of, rest_words}
 use Rattle.bg_world.proofs.Lines.EventShapes.{AreNumerals, IsRestShape, line_shape, numeral_of_one, of_line, one_numeral, shape_of_line, shape_of_rest}
 use Rattle.bg_world.proofs.Lines.EventTexts.{choice_text, number_text, right_numbers, same_event, words_of_event}

@@ -12,8 +12,8 @@ use Rattle.bg_world.specs.Texts.EventText.{event_words}
 use Rattle.bg_world.specs.Texts.EventLines.{kind_start}
 use Rattle.bg_world.specs.declared.texts.event_lines.EventKind.{EventKind}
 use Rattle.bg_world.specs.declared.texts.event_lines.EventKind.TheVariants as kind
-use Rattle.bg_world.specs.declared.events.Event.{Event}
-use Rattle.bg_world.specs.declared.events.Event.TheVariants as event
+use Rattle.bg_protocol.specs.declared.events.Event.{Event}
+use Rattle.bg_protocol.specs.declared.events.Event.TheVariants as event
 use Rattle.bg_world.proofs.Lines.LineParts.{same}
 
 abbrev pub kind_of : Event → EventKind

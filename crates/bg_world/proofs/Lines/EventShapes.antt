@@ -10,7 +10,7 @@ use Rattle.bg_world.specs.Texts.EventText.{HasRightNumbers, IsEventShape, IsLong
 use Rattle.bg_world.specs.Texts.EventLines.{kind_start}
 use Rattle.bg_world.specs.declared.texts.event_lines.EventKind.{EventKind}
 use Rattle.bg_world.specs.declared.texts.event_lines.EventKind.TheVariants as kind
-use Rattle.bg_world.specs.declared.events.Event.{Event}
+use Rattle.bg_protocol.specs.declared.events.Event.{Event}
 use Rattle.bg_world.proofs.Lines.EventKinds.{kind_first, kind_of, kind_word, rest_words, same_kind, start_of_spaced, words_of_start}
 use Rattle.bg_world.proofs.Lines.EventTexts.{numeral_word, tails, words_of_event}
 

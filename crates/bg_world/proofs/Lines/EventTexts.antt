@@ -19,8 +19,8 @@ use Rattle.bg_text.proofs.Spelling.EntryLines.{words_behind}
 use Rattle.bg_text.proofs.Spelling.EntryTexts.{same_player}
 use Rattle.bg_text.proofs.Spelling.Splits.{IsWord, first_piece, words_spaced}
 use Rattle.bg_world.specs.Texts.EventText.{EventTextsDiffer, HasRightNumbers, IsEvent, IsLongNumeral, event_text, event_words, greatest_word}
-use Rattle.bg_world.specs.declared.events.Event.{Event}
-use Rattle.bg_world.specs.declared.events.Event.TheVariants as event
+use Rattle.bg_protocol.specs.declared.events.Event.{Event}
+use Rattle.bg_protocol.specs.declared.events.Event.TheVariants as event
 use Rattle.bg_world.specs.declared.texts.event_lines.EventKind.TheVariants as kind
 use Rattle.bg_world.proofs.Lines.Digits.{own}
 use Rattle.bg_world.proofs.Lines.EventKinds.{kind_first, kind_is_word, kind_of, kind_word, rest_words, same_kind}

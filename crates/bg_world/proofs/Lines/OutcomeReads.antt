@@ -19,9 +19,9 @@ use Rattle.bg_referee.specs.declared.outcomes.TakeOutcome.TheVariants as take
 use Rattle.bg_party.specs.declared.outcomes.ChooseFault.TheVariants as choose_fault
 use Rattle.bg_party.specs.declared.outcomes.Learned.TheVariants as learn
 use Rattle.bg_world.specs.Texts.OutcomeText.{HasNumbers, HasReasonNumber, FitsIn64Bits, answer_text, entries_told, outcome_text, told_part}
-use Rattle.bg_world.specs.declared.events.Outcome.{Outcome}
-use Rattle.bg_world.specs.declared.events.Outcome.TheVariants as outcome
-use Rattle.bg_world.specs.declared.events.RestoreCause.TheVariants as cause
+use Rattle.bg_protocol.specs.declared.events.Outcome.{Outcome}
+use Rattle.bg_protocol.specs.declared.events.Outcome.TheVariants as outcome
+use Rattle.bg_protocol.specs.declared.events.RestoreCause.TheVariants as cause
 use Rattle.bg_world.proofs.Lines.LineParts.{digits, digits_behind, digits_of_number, number, number_read, same, words, words_behind, words_of_number}
 
 -- ---- a sample of each line, where numbers are 0

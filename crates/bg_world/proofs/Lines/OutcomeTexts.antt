@@ -9,9 +9,9 @@ use Rattle.bg_referee.specs.declared.outcomes.DueFault.TheVariants as due_fault
 use Rattle.bg_referee.specs.declared.outcomes.TakeOutcome.TheVariants as take
 use Rattle.bg_party.specs.declared.outcomes.Learned.TheVariants as learn
 use Rattle.bg_world.specs.Texts.OutcomeText.{AreAnswersAlike, HasNumbers, IsNothing, FitsIn64Bits, IsOtherMatch, OutcomeTextsDiffer, ShareLine, answer_text, entries_told, outcome_text, told_part}
-use Rattle.bg_world.specs.Worlds.WorldRuns.{is_memory}
-use Rattle.bg_world.specs.declared.events.Outcome.{Outcome}
-use Rattle.bg_world.specs.declared.events.Outcome.TheVariants as outcome
+use Rattle.bg_protocol.specs.Worlds.WorldRuns.{is_memory}
+use Rattle.bg_protocol.specs.declared.events.Outcome.{Outcome}
+use Rattle.bg_protocol.specs.declared.events.Outcome.TheVariants as outcome
 use Rattle.bg_world.proofs.Lines.LineParts.{are_digits, begins_otherwise, cut_digits, from_digit, from_number, same, words}
 use Rattle.bg_world.proofs.Lines.OutcomeReads.{HasRange, no_words, outcome_read, plain, read, told_words}
 

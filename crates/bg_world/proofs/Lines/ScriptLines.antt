@@ -11,19 +11,19 @@ use Rattle.bg_text.specs.Limits.{most_bytes}
 use Rattle.bg_text.specs.declared.faults.TextFault.{TextFault}
 use Rattle.bg_text.specs.declared.judging.verdicts.Verdict.{Verdict}
 use Rattle.bg_text.specs.declared.judging.verdicts.Verdict.TheVariants.{Fine}
-use Rattle.bg_world.specs.Worlds.Calls.{Calls}
+use Rattle.bg_protocol.specs.Worlds.Calls.{Calls}
 use Rattle.bg_world.specs.Texts.EventText.{IsEvent, IsEventTextFault, event_text}
 use Rattle.bg_world.specs.Texts.FinalText.{IsFinalText}
 use Rattle.bg_world.specs.Texts.OutcomeText.{outcome_text}
 use Rattle.bg_world.specs.Texts.ScriptText.{IsPlayed, IsRefused, IsRefusedAt, IsScriptText, IsTextFrom}
 use Rattle.bg_world.specs.Texts.Scripts.{IsPartPlayed, PlaysLines}
-use Rattle.bg_world.specs.Worlds.Simulations.{start_in_memory}
-use Rattle.bg_world.specs.Worlds.Views.{WorldView}
-use Rattle.bg_world.specs.declared.worlds.setups.Setup.{Setup}
-use Rattle.bg_world.specs.Worlds.WorldRuns.{CallsAll}
-use Rattle.bg_world.specs.declared.events.Event.{Event}
-use Rattle.bg_world.specs.declared.events.Outcome.{Outcome}
-use Rattle.bg_world.proofs.ReachedWorlds.Running.{calls_more}
+use Rattle.bg_protocol.specs.Worlds.Simulations.{start_in_memory}
+use Rattle.bg_protocol.specs.Worlds.Views.{WorldView}
+use Rattle.bg_protocol.specs.declared.worlds.setups.Setup.{Setup}
+use Rattle.bg_protocol.specs.Worlds.WorldRuns.{CallsAll}
+use Rattle.bg_protocol.specs.declared.events.Event.{Event}
+use Rattle.bg_protocol.specs.declared.events.Outcome.{Outcome}
+use Rattle.bg_protocol.proofs.ReachedWorlds.Running.{calls_more}
 
 -- ---- events
 

@@ -7,8 +7,8 @@ use Rattle.bg_text.specs.declared.faults.TextFault.TheVariants.{NotALine}
 use Rattle.bg_world.specs.Texts.EventText.{IsEvent, IsEventTextFault, IsLongNumeral, event_text}
 use Rattle.bg_world.specs.declared.texts.event_lines.EventKind.{EventKind}
 use Rattle.bg_world.specs.declared.texts.event_lines.EventKind.TheVariants as kind
-use Rattle.bg_world.specs.declared.events.Event.{Event}
-use Rattle.bg_world.specs.declared.events.Event.TheVariants as event
+use Rattle.bg_protocol.specs.declared.events.Event.{Event}
+use Rattle.bg_protocol.specs.declared.events.Event.TheVariants as event
 
 -- a word that says a number up to this one
 abbrev pub IsNumberUpTo : ℕ → List ℕ → Result ℕ TextFault → Type 0

@@ -13,8 +13,8 @@ use Rattle.bg_text.specs.Entries.EntryShape.{IsActionShape, MovesDownward}
 use Rattle.bg_text.specs.Entries.Words.{words_of, spaced}
 use Rattle.bg_text.specs.declared.faults.TextFault.{TextFault}
 use Rattle.bg_text.specs.declared.faults.TextFault.TheVariants.{NotALine, BadNumber, TooManySteps}
-use Rattle.bg_world.specs.declared.events.Event.{Event}
-use Rattle.bg_world.specs.declared.events.Event.TheVariants as event
+use Rattle.bg_protocol.specs.declared.events.Event.{Event}
+use Rattle.bg_protocol.specs.declared.events.Event.TheVariants as event
 
 -- ---- the line
 

@@ -1,21 +1,9 @@
--- The words of faults.
-use Rattle.std.specs.Prelude.{ℕ, List, codes}
+-- The words of a script's faults.
+use Rattle.std.specs.Prelude.{ℕ, List}
 use Rattle.bg_streams.specs.FaultWords.{engine_fault_words}
-use Rattle.bg_world.specs.declared.devices.DeviceFault.{DeviceFault}
-use Rattle.bg_world.specs.declared.devices.DeviceFault.TheVariants as device_fault
-use Rattle.bg_world.specs.declared.worlds.setups.WorldFault.{WorldFault}
-use Rattle.bg_world.specs.declared.worlds.setups.WorldFault.TheVariants as world_fault
+use Rattle.bg_protocol.specs.FaultWords.{world_fault_words}
 use Rattle.bg_world.specs.declared.texts.scripts.ScriptFault.{ScriptFault}
 use Rattle.bg_world.specs.declared.texts.scripts.ScriptFault.TheVariants as script_fault
-
-abbrev pub device_fault_words : DeviceFault → List ℕ
-device_fault_words device_fault.Failed = codes "the device failed"
-device_fault_words device_fault.Memory = codes "out of memory"
-
-abbrev pub world_fault_words : WorldFault → List ℕ
-world_fault_words world_fault.TooManyWatchers = codes "too many watchers"
-world_fault_words world_fault.LengthOutOfRange = codes "length out of range"
-world_fault_words world_fault.Memory = codes "out of memory"
 
 abbrev pub script_fault_words : ScriptFault → List ℕ
 script_fault_words (script_fault.World why) = world_fault_words why

@@ -4,10 +4,10 @@ use Rattle.std.specs.Fmt.{decimal}
 use Rattle.bg_match.specs.Match.{Log, StandsAt}
 use Rattle.bg_match.specs.State.{State}
 use Rattle.bg_text.specs.Boards.BoardText.{line_text, board_text}
-use Rattle.bg_world.specs.Protocol.Roles.{role}
-use Rattle.bg_world.specs.Worlds.Starts.{held_of}
-use Rattle.bg_world.specs.Worlds.Views.{WorldView, parties}
-use Rattle.bg_world.specs.declared.roles.Role.TheVariants as roles
+use Rattle.bg_protocol.specs.Protocol.Roles.{role}
+use Rattle.bg_protocol.specs.Worlds.Starts.{held_of}
+use Rattle.bg_protocol.specs.Worlds.Views.{WorldView, parties}
+use Rattle.bg_protocol.specs.declared.roles.Role.TheVariants as roles
 
 -- how many entries a party holds, or that it is down
 abbrev pub held_part : Option Log → List ℕ

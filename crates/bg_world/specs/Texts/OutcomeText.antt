@@ -18,11 +18,11 @@ use Rattle.bg_party.specs.declared.outcomes.ChooseFault.{ChooseFault}
 use Rattle.bg_party.specs.declared.outcomes.ChooseFault.TheVariants as choose_fault
 use Rattle.bg_party.specs.declared.outcomes.Learned.{Learned}
 use Rattle.bg_party.specs.declared.outcomes.Learned.TheVariants as learn
-use Rattle.bg_world.specs.Worlds.WorldRuns.{is_memory}
-use Rattle.bg_world.specs.declared.events.Outcome.{Outcome}
-use Rattle.bg_world.specs.declared.events.Outcome.TheVariants as outcome
-use Rattle.bg_world.specs.declared.events.RestoreCause.{RestoreCause}
-use Rattle.bg_world.specs.declared.events.RestoreCause.TheVariants as cause
+use Rattle.bg_protocol.specs.Worlds.WorldRuns.{is_memory}
+use Rattle.bg_protocol.specs.declared.events.Outcome.{Outcome}
+use Rattle.bg_protocol.specs.declared.events.Outcome.TheVariants as outcome
+use Rattle.bg_protocol.specs.declared.events.RestoreCause.{RestoreCause}
+use Rattle.bg_protocol.specs.declared.events.RestoreCause.TheVariants as cause
 
 -- ---- the line
 

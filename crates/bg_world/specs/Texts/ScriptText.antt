@@ -14,17 +14,17 @@ use Rattle.bg_text.specs.declared.judging.verdicts.Verdict.TheVariants.{Fine, Re
 use Rattle.bg_world.specs.Texts.EventText.{IsEvent, IsEventTextFault, event_text}
 use Rattle.bg_world.specs.Texts.FinalText.{IsFinalText}
 use Rattle.bg_world.specs.Texts.OutcomeText.{outcome_text}
-use Rattle.bg_world.specs.Worlds.Simulations.{IsEmptyPlan, start_in_memory}
-use Rattle.bg_world.specs.Worlds.Starts.{terms_in, IsWorldFault}
-use Rattle.bg_world.specs.Protocol.State.{IsSetup}
-use Rattle.bg_world.specs.Worlds.Views.{WorldView}
-use Rattle.bg_world.specs.Worlds.WorldRuns.{CallsAll}
-use Rattle.bg_world.specs.declared.events.Event.{Event}
-use Rattle.bg_world.specs.declared.events.Outcome.{Outcome}
-use Rattle.bg_world.specs.declared.devices.plans.Plan.{Plan}
+use Rattle.bg_protocol.specs.Worlds.Simulations.{IsEmptyPlan, start_in_memory}
+use Rattle.bg_protocol.specs.Worlds.Starts.{terms_in, IsWorldFault}
+use Rattle.bg_protocol.specs.Protocol.State.{IsSetup}
+use Rattle.bg_protocol.specs.Worlds.Views.{WorldView}
+use Rattle.bg_protocol.specs.Worlds.WorldRuns.{CallsAll}
+use Rattle.bg_protocol.specs.declared.events.Event.{Event}
+use Rattle.bg_protocol.specs.declared.events.Outcome.{Outcome}
+use Rattle.bg_protocol.specs.declared.devices.plans.Plan.{Plan}
 use Rattle.bg_world.specs.declared.texts.scripts.ScriptFault.{ScriptFault}
 use Rattle.bg_world.specs.declared.texts.scripts.ScriptFault.TheVariants.{Engine, World}
-use Rattle.bg_world.specs.declared.worlds.setups.Setup.{Setup}
+use Rattle.bg_protocol.specs.declared.worlds.setups.Setup.{Setup}
 
 -- the lines are the texts of the events
 abbrev pub AreEventLines : List (List ℕ) → List Event → Type 0

@@ -7,13 +7,13 @@ use Rattle.bg_text.specs.declared.faults.TextFault.{TextFault}
 use Rattle.bg_world.specs.Texts.EventText.{IsEvent, event_text}
 use Rattle.bg_world.specs.Texts.OutcomeText.{outcome_text}
 use Rattle.bg_world.specs.Texts.ScriptText.{AreEventLines, IsRefusedAt}
-use Rattle.bg_world.specs.Worlds.Simulations.{IsEmptyPlan, start_in_memory}
-use Rattle.bg_world.specs.Worlds.Views.{WorldView}
-use Rattle.bg_world.specs.Worlds.WorldRuns.{CallsAll}
-use Rattle.bg_world.specs.declared.events.Event.{Event}
-use Rattle.bg_world.specs.declared.events.Outcome.{Outcome}
-use Rattle.bg_world.specs.declared.devices.plans.Plan.{Plan}
-use Rattle.bg_world.specs.declared.worlds.setups.Setup.{Setup}
+use Rattle.bg_protocol.specs.Worlds.Simulations.{IsEmptyPlan, start_in_memory}
+use Rattle.bg_protocol.specs.Worlds.Views.{WorldView}
+use Rattle.bg_protocol.specs.Worlds.WorldRuns.{CallsAll}
+use Rattle.bg_protocol.specs.declared.events.Event.{Event}
+use Rattle.bg_protocol.specs.declared.events.Outcome.{Outcome}
+use Rattle.bg_protocol.specs.declared.devices.plans.Plan.{Plan}
+use Rattle.bg_protocol.specs.declared.worlds.setups.Setup.{Setup}
 
 -- the lines are those of so many events, which happen, and the lines of what they come to are added
 pub record PlaysLines

@@ -5,7 +5,7 @@ ghost use Rattle.bg_world.specs.Texts.EventText.{greatest_party, greatest_word};
 ghost use Rattle.bg_world.specs.Texts.EventLines.{IsEventOf, IsNumberUpTo, kind_start, take_of};
 ghost use Rattle.bg_world.specs.declared.texts.event_lines.EventKind.{EventKind};
 ghost use Rattle.bg_world.specs.declared.texts.event_lines.EventKind.TheVariants as kind;
-ghost use Rattle.bg_world.specs.declared.events.Event.{Event};
+ghost use Rattle.bg_protocol.specs.declared.events.Event.{Event};
 
 use crate::Event;
 use crate::texts::numbers::read_up_to;

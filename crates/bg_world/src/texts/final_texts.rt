@@ -2,8 +2,8 @@
 ghost use Rattle.std.specs.Prelude.{◌≡◌, ◌++◌, List, ℕ, IfOk, OnOk, option_copied};
 ghost use Rattle.bg_text.specs.Boards.BoardText.{line_text};
 ghost use Rattle.bg_world.specs.Texts.FinalText.{IsBoardOf, IsFinalText, held_part, parties_text, party_line};
-ghost use Rattle.bg_world.specs.Worlds.Views.{parties};
-ghost use Rattle.bg_world.specs.Worlds.World.{view_of};
+ghost use Rattle.bg_protocol.specs.Worlds.Views.{parties};
+ghost use Rattle.bg_protocol.specs.Worlds.World.{view_of};
 
 use crate::{Keeper, Link, World};
 use bg_match::Record;
@@ -20,9 +20,9 @@ use std::alloc::{AllocError, Global};
 pub fn final_text<L: Link, K: Keeper>(world: &World<L, K>) -> Result<Vec<u8>, AllocError>
     ensures { IfOk result (λ text. IsFinalText (view_of L.Link K.Keeper world.now) text.items) }
 {
-    let mut text = Vec::new(world.alloc);
+    let mut text = Vec::new(world.allocator());
     put_parties(&mut text, world)?;
-    put_board(world.alloc, &mut text, world.held(REFEREE))?;
+    put_board(world.allocator(), &mut text, world.held(REFEREE))?;
     Ok(text)
 }
 

@@ -47,7 +47,7 @@ pub(crate) fn put_outcome_text(line: &mut ArrayString<80>, outcome: &Outcome)
         Outcome::NoSuchParty => line.push_str("no such party"),
         Outcome::LinkFault => line.push_str("link fault"),
         Outcome::SaveFault => line.push_str("save fault"),
-        Outcome::RestoreFault(cause) => put_reasoned(line, "restore fault: ", cause.words()),
+        Outcome::RestoreFault(cause) => put_reasoned(line, "restore fault: ", cause_words(*cause)),
         Outcome::Memory => line.push_str("out of memory"),
     }
 }
@@ -186,16 +186,14 @@ fn put_no_packet(line: &mut Line, fault: WireFault)
     }
 }
 
-impl RestoreCause {
-    /// Returns the reason why nothing is restored, in words.
-    fn words(self) -> &'static str
-        ensures words { result.now ≡ cause_words self }
-        ensures fits { length result.now ≤ 11 }
-    {
-        match self {
-            RestoreCause::Device => "device",
-            RestoreCause::Damaged => "damaged",
-            RestoreCause::WrongMatch => "wrong match",
-        }
+/// Returns the reason why nothing is restored, in words.
+fn cause_words(cause: RestoreCause) -> &'static str
+    ensures words { result.now ≡ cause_words cause }
+    ensures fits { length result.now ≤ 11 }
+{
+    match cause {
+        RestoreCause::Device => "device",
+        RestoreCause::Damaged => "damaged",
+        RestoreCause::WrongMatch => "wrong match",
     }
 }

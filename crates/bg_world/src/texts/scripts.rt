@@ -10,11 +10,11 @@ ghost use Rattle.bg_world.specs.Texts.OutcomeText.{outcome_text};
 ghost use Rattle.bg_world.specs.Texts.ScriptText.{IsScriptFault, IsScriptText, IsTextFrom, SinkFailsOnce};
 ghost use Rattle.bg_world.specs.Texts.ScriptText.{SourceFailsOnce, event_reason, refused_event_line};
 ghost use Rattle.bg_world.specs.Texts.Scripts.{IsStart, PlaysOrRefuses};
-ghost use Rattle.bg_world.specs.Worlds.Simulations.{memory_view};
-ghost use Rattle.bg_world.specs.Worlds.Starts.{terms_in, IsWorldFault};
-ghost use Rattle.bg_world.specs.Protocol.State.{IsSetup};
-ghost use Rattle.bg_world.specs.Worlds.World.{view_of};
-ghost use Rattle.bg_world.specs.declared.worlds.setups.WorldFault.{WorldFault};
+ghost use Rattle.bg_protocol.specs.Worlds.Simulations.{memory_view};
+ghost use Rattle.bg_protocol.specs.Worlds.Starts.{terms_in, IsWorldFault};
+ghost use Rattle.bg_protocol.specs.Protocol.State.{IsSetup};
+ghost use Rattle.bg_protocol.specs.Worlds.World.{view_of};
+ghost use Rattle.bg_protocol.specs.declared.worlds.setups.WorldFault.{WorldFault};
 
 use crate::texts::outcome_texts::put_outcome_text;
 use crate::{
@@ -63,9 +63,7 @@ fn play<L: Link, K: Keeper>(
             Ok(event) => event,
             Err(fault) => return Ok(Err((count + 1, fault))),
         };
-        let mut outcome = Outcome::NoSuchParty;
-        world.happen(event, &mut outcome);
-        put_outcome(out, &outcome)?;
+        put_outcome(out, &world.step(event))?;
         count += 1;
         rest = after;
     }

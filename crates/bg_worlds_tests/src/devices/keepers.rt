@@ -1,6 +1,6 @@
 //! Keepers in memory that record what they are asked.
 ghost use Rattle.std.specs.Prelude.{◌≡◌, ◌+◌, None, length};
-ghost use Rattle.bg_world.specs.Protocol.Slots.{empty_slots};
+ghost use Rattle.bg_protocol.specs.Protocol.Slots.{empty_slots};
 
 use super::Recorder;
 use bg_streams::History;

@@ -1,6 +1,6 @@
 //! A link in memory that hands over in order or by picks, and records what it is asked.
 ghost use Rattle.std.specs.Prelude.{[], None, length};
-ghost use Rattle.bg_world.specs.Devices.Handed.{noted_answer};
+ghost use Rattle.bg_protocol.specs.Devices.Handed.{noted_answer};
 
 use super::Recorder;
 use arrayvec::ArrayVec;

@@ -1,6 +1,6 @@
 //! A link in memory of the tests' own: what is handed over is what was sent.
 ghost use Rattle.std.specs.Prelude.{◌≡◌, [], IfSome, Ok, Some};
-ghost use Rattle.bg_world.specs.Devices.Handed.{handed};
+ghost use Rattle.bg_protocol.specs.Devices.Handed.{handed};
 
 use crate::checks::{check_row, lasting};
 use crate::devices::links::OwnLink;

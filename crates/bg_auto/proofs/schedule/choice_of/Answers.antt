@@ -1,6 +1,6 @@
 use Rattle.std.proofs.Common.{rules, ◌≡◌, inr, ap, Some}
-use Rattle.bg_world.specs.Worlds.Simulations.{memory_view}
-use Rattle.bg_world.specs.declared.events.Event.TheVariants.{Tick}
+use Rattle.bg_protocol.specs.Worlds.Simulations.{memory_view}
+use Rattle.bg_protocol.specs.declared.events.Event.TheVariants.{Tick}
 use Rattle.bg_auto.specs.Schedule.{seat_log}
 use Rattle.bg_auto.proofs.Schedules.{does_nothing}
 use Rattle.bg_auto.proofs.schedule.choice_of.Goals as goal

@@ -1,7 +1,7 @@
 use Rattle.std.proofs.Common.{◌≤◌, ◌%◌, ◌+◌, arith}
 use Rattle.std.proofs.lemmas.Result.{IfOk-weaker}
 use Rattle.bg_wire.specs.Entries.Codes.{first_watcher}
-use Rattle.bg_world.specs.Worlds.Simulations.{memory_view}
+use Rattle.bg_protocol.specs.Worlds.Simulations.{memory_view}
 use Rattle.bg_auto.proofs.Schedules.{chosen}
 use Rattle.bg_auto.proofs.schedule.event_of.Goals as goal
 

@@ -1,4 +1,4 @@
-use Rattle.bg_world.specs.Worlds.Nodes.{referee_node_of}
+use Rattle.bg_protocol.specs.Worlds.Nodes.{referee_node_of}
 use Rattle.bg_fences.proofs.FencedSaves.{referee_saves}
 use Rattle.bg_fences.proofs.fenced_saves.save_referee.Goals as goal
 

@@ -1,4 +1,4 @@
-use Rattle.bg_world.specs.Worlds.Nodes.{seat_node_of}
+use Rattle.bg_protocol.specs.Worlds.Nodes.{seat_node_of}
 use Rattle.bg_fences.proofs.FencedSaves.{seat_saves}
 use Rattle.bg_fences.proofs.fenced_saves.save_seat.Goals as goal
 

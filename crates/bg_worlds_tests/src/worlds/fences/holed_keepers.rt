@@ -1,6 +1,6 @@
 //! Keepers whose fence has a hole.
 ghost use Rattle.std.specs.Prelude.{None, length};
-ghost use Rattle.bg_world.specs.Protocol.Slots.{empty_slots};
+ghost use Rattle.bg_protocol.specs.Protocol.Slots.{empty_slots};
 
 use crate::devices::Recorder;
 use crate::devices::keepers::OwnKeeper;

@@ -1,5 +1,5 @@
 use Rattle.std.proofs.Common.{Option, Some, sym, ap, subst}
-use Rattle.bg_world.specs.declared.events.Event.{Event}
+use Rattle.bg_protocol.specs.declared.events.Event.{Event}
 use Rattle.bg_auto.specs.RoundResults.{moment_of}
 use Rattle.bg_auto.specs.Rounds.{GoesOn, Happens, IsEventOf, follow_up}
 use Rattle.bg_auto.specs.declared.rounds.Rounds.{Rounds}

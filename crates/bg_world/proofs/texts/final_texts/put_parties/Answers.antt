@@ -2,10 +2,10 @@ use Rattle.std.proofs.Common.{◌≡◌, ℕ, ◌+◌, List, ◌++◌, Option, a
 use Rattle.bg_match.specs.Match.{Log}
 use Rattle.bg_text.specs.Boards.BoardText.{line_text}
 use Rattle.bg_world.specs.Texts.FinalText.{parties_text, party_line}
-use Rattle.bg_world.specs.Protocol.Roles.{role}
-use Rattle.bg_world.specs.Worlds.Starts.{held_of}
-use Rattle.bg_world.specs.Worlds.Views.{WorldView}
-use Rattle.bg_world.specs.Worlds.World.{view_of}
+use Rattle.bg_protocol.specs.Protocol.Roles.{role}
+use Rattle.bg_protocol.specs.Worlds.Starts.{held_of}
+use Rattle.bg_protocol.specs.Worlds.Views.{WorldView}
+use Rattle.bg_protocol.specs.Worlds.World.{view_of}
 use Rattle.bg_world.proofs.texts.final_texts.put_parties.Goals as goal
 
 one_more : (w : WorldView) (n : ℕ) (before old new : List ℕ) (held : Option Log) → held ≡ held_of w (role n)

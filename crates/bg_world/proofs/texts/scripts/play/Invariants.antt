@@ -1,6 +1,6 @@
 use Rattle.std.proofs.Common.{length}
 use Rattle.bg_world.specs.Texts.Scripts.{IsPartPlayed}
-use Rattle.bg_world.specs.Worlds.World.{view_of}
+use Rattle.bg_protocol.specs.Worlds.World.{view_of}
 use Rattle.bg_world.proofs.texts.scripts.play.Given as goal
 
 abbrev pub invariant-loop-line : goal.invariant-loop-line

@@ -1,6 +1,6 @@
 use Rattle.std.proofs.Common.{subst}
 use Rattle.bg_world.specs.Texts.ScriptText.{IsScriptText, IsTextFrom}
-use Rattle.bg_world.specs.Worlds.Views.{WorldView}
+use Rattle.bg_protocol.specs.Worlds.Views.{WorldView}
 use Rattle.bg_world.proofs.Lines.ScriptLines.{script_known}
 use Rattle.bg_world.proofs.texts.scripts.script.Goals as goal
 

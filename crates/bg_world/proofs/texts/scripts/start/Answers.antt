@@ -1,5 +1,5 @@
-use Rattle.bg_world.specs.Worlds.Simulations.{memory_view, start_in_memory}
-use Rattle.bg_world.specs.declared.devices.plans.Plan.{Plan}
+use Rattle.bg_protocol.specs.Worlds.Simulations.{memory_view, start_in_memory}
+use Rattle.bg_protocol.specs.declared.devices.plans.Plan.{Plan}
 use Rattle.bg_world.proofs.Lines.ScriptLines.{none_happen}
 use Rattle.bg_world.proofs.texts.scripts.start.Goals as goal
 

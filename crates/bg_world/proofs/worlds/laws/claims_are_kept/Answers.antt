@@ -1,6 +1,0 @@
-use Rattle.bg_world.proofs.worlds.laws.claims_are_kept.Goals as goal
-use Rattle.bg_world.proofs.Protocol.Invariant.{of_seat}
-use Rattle.bg_world.proofs.Protocol.Reached.{reached}
-
-pub returns : goal.returns
-returns c = λ w q h. (of_seat w q (reached w h)).claims

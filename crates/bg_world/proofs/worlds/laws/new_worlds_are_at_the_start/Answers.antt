@@ -1,5 +1,0 @@
-use Rattle.bg_world.proofs.ReachedWorlds.Starting.{at_the_start}
-use Rattle.bg_world.proofs.worlds.laws.new_worlds_are_at_the_start.Goals as goal
-
-pub returns : goal.returns
-returns c = at_the_start
