@@ -1,4 +1,4 @@
-//! What a secret says of the dice of a match, in lines.
+//! What a secret says about the dice of a match, in lines.
 ghost use Rattle.std.specs.Prelude.{◌≤◌, length};
 ghost use Rattle.bg_match.specs.Match.{IsLegalRecord};
 
@@ -10,21 +10,21 @@ use bg_match::{Number, Record};
 use bg_text::{entry_text, put_number, put_text};
 use std::alloc::{AllocError, Global};
 
-/// What came of checking the dice of a match.
+/// The result of checking the dice of a match.
 #[derive(Drop)]
 pub struct Checked {
     /// The lines: the SHA-256, each entry with dice, and the verdict.
     pub text: Vec<u8>,
-    /// How many entries have dice.
+    /// The number of entries that have dice.
     pub rolls: Number,
-    /// How many of these the secret has other dice for.
+    /// The number of these for which the secret has other dice, or none.
     pub others: Number,
 }
 
-/// Checks the dice of a match by a secret.
+/// Checks the dice of a match against a secret.
 ///
 /// # Errors
-/// AllocError where there is no memory for the lines.
+/// `AllocError` if memory runs out.
 pub fn checked_text(alloc: Global, secret: &Secret, log: &Record) -> Result<Checked, AllocError> {
     let mut checked = Checked {
         text: Vec::new(alloc),
@@ -39,7 +39,7 @@ pub fn checked_text(alloc: Global, secret: &Secret, log: &Record) -> Result<Chec
     Ok(checked)
 }
 
-/// Adds the line of the entry of a number, if it has dice, and counts it.
+/// Adds the line of the entry with this number, if it has dice, and counts it.
 fn check_entry(
     checked: &mut Checked,
     secret: &Secret,
@@ -78,14 +78,14 @@ fn put_entry(out: &mut Vec<u8>, log: &Record, number: Number) -> Result<(), Allo
     put_text(out, entry_text(log.by(number), entry).as_str())
 }
 
-/// Adds that an entry has the dice of the secret, and of which attempt.
+/// Adds that an entry has the dice of the secret, and the attempt that gave them.
 fn put_own(text: &mut Vec<u8>, attempt: u16) -> Result<(), AllocError> {
     put_text(text, ": ok, attempt ")?;
     put_number(text, attempt.into())?;
     put_text(text, "\n")
 }
 
-/// Adds which dice a secret has, where an entry has others.
+/// Adds that an entry has other dice than the secret, and which dice the secret has, if any.
 fn put_other(text: &mut Vec<u8>, drawn: Option<Drawn>) -> Result<(), AllocError> {
     let Some(Drawn { dice, attempt }) = drawn else {
         return put_text(text, ": not of this secret, which has none\n");
@@ -99,7 +99,7 @@ fn put_other(text: &mut Vec<u8>, drawn: Option<Drawn>) -> Result<(), AllocError>
     put_text(text, "\n")
 }
 
-/// Adds the verdict: `ok ROLLS`, or how many are not of the secret.
+/// Adds the verdict: `ok ROLLS`, or how many rolls are not of the secret.
 fn put_verdict(checked: &mut Checked) -> Result<(), AllocError> {
     let Checked {
         text,

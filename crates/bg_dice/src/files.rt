@@ -1,4 +1,4 @@
-//! The file of a match's folder that says what was told of its dice before the first roll.
+//! The file in a match's folder that says what was published about its dice before the first roll.
 
 use crate::secrets::{Digest, bytes_of};
 use crate::texts::told_text;
@@ -11,14 +11,14 @@ use std::{fs, io};
 /// The name of the file.
 const NAME: &str = "dice";
 
-/// A file that only its owner reads and writes.
+/// The mode of a file that only its owner can read and write.
 const OWNER_ALONE: u32 = 0o600;
 
-/// Writes the SHA-256 of the secret of a match's dice into its folder, and has it written through.
-/// It is written under another name, and then takes its own, so that no kill leaves a part of it.
+/// Writes the SHA-256 of the secret of a match's dice into its folder, and syncs it. The file is
+/// written under another name and then renamed, so that a kill never leaves part of it.
 ///
 /// # Errors
-/// The system's error where it can't be written.
+/// The system's error if the file can't be written.
 pub fn write_digest(
     rt: &(impl Files<File = File> + AllocGlobal),
     folder: &str,
@@ -32,7 +32,7 @@ pub fn write_digest(
     File::open(rt, folder)?.sync_all()
 }
 
-/// Writes a file, and has it written through.
+/// Writes a file, and syncs it.
 fn write_through(rt: &impl Files<File = File>, path: &str, bytes: &[u8]) -> io::Result<()> {
     let mut file = OpenOptions::new()
         .write(true)
@@ -44,11 +44,11 @@ fn write_through(rt: &impl Files<File = File>, path: &str, bytes: &[u8]) -> io::
     file.sync_all()
 }
 
-/// Reads the SHA-256 that was told of a match's dice before the first roll. Returns `None` where
-/// nothing was told, as by an older version.
+/// Reads the SHA-256 that was published before the first roll of a match. Returns `None` if nothing
+/// was published, as with older versions.
 ///
 /// # Errors
-/// The system's error where it can't be read; `InvalidData` where the file says something else.
+/// The system's error if the file can't be read; `InvalidData` if the file has something else.
 pub fn read_digest(
     rt: &(impl Files<File = File> + AllocGlobal),
     folder: &str,
@@ -64,7 +64,7 @@ pub fn read_digest(
     }
 }
 
-/// Returns the digest that a line says.
+/// Returns the digest in a line `sha256 DIGITS`.
 fn digest_in(text: &str) -> Option<Digest> {
     bytes_of(text.strip_prefix("sha256 ")?.strip_suffix('\n')?)
 }

@@ -1,7 +1,7 @@
-//! Dice that can be checked afterwards. The dice of each entry are made of a secret. Its SHA-256 is
-//! told before the first roll, and the secret itself when the match is over (docs/FORMATS.md, "Dice
-//! that can be checked"). For programs that run matches, and for those that check what they have
-//! rolled. That dice are fair is not claimed.
+//! Dice that can be checked afterwards. The dice of each entry are made from a secret. Its SHA-256
+//! is published before the first roll, and the secret itself when the match is over
+//! (docs/FORMATS.md, "Dice that can be checked"). The crate is for programs that run matches, and
+//! for those that check the rolls of such programs. It doesn't claim that the dice are fair.
 //!
 //! ```
 //! // The first entry opens a game, so the equal dice of an attempt before would have been passed

@@ -11,13 +11,13 @@ use bg_turns::{Dice, dice_of};
 #[derive(Clone, Copy, Debug, PartialEq, Eq)]
 pub struct Drawn {
     pub dice: Dice,
-    /// The number of attempts before it, which the rules pass over.
+    /// The number of attempts before this one, all of which the rules pass over.
     pub attempt: u16,
 }
 
-/// Returns the dice that a secret has for the entry behind so many others, which opens a game or is
-/// a roll. They are those of the first attempt that the rules don't pass over. Returns `None` where
-/// they pass over all 65,536.
+/// Returns the dice that a secret has for the entry after `before` others. `opens` says whether the
+/// entry opens a game; otherwise it is a roll. The dice are those of the first attempt that the
+/// rules don't pass over. Returns `None` if they pass over all 65,536.
 pub fn drawn_behind(secret: &Secret, before: Number, opens: bool) -> Option<Drawn>
     ensures drawn { IfSome result (λ drawn. IsDrawnBehind secret.now before opens drawn) }
     ensures none { result ≡ None → AreAllPassedOver secret.now before opens }
@@ -30,7 +30,7 @@ pub fn drawn_behind(secret: &Secret, before: Number, opens: bool) -> Option<Draw
     None
 }
 
-/// Returns the dice that a secret has for the entry behind so many others at an attempt.
+/// Returns the dice that a secret has at an attempt for the entry after `before` others, if any.
 fn dice_at(secret: &Secret, before: Number, attempt: u16) -> Option<Dice>
     ensures { result ≡ dice_of_secret secret.now before attempt }
 {
@@ -41,7 +41,7 @@ fn dice_at(secret: &Secret, before: Number, attempt: u16) -> Option<Dice>
     dice_of(attempt.keyed_word(secret))
 }
 
-/// Returns the dice of an attempt, or `None` where the rules pass over it.
+/// Returns the dice of an attempt, or `None` if the rules pass over it.
 fn taken(dice: Option<Dice>, opens: bool) -> Option<Dice>
     ensures some { IfSome result (λ taken. (dice ≡ Some taken) × (is_passed_over opens dice ≡ false)) }
     ensures none { result ≡ None → IsTrue (is_passed_over opens dice) }

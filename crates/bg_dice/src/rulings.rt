@@ -1,4 +1,4 @@
-//! What a secret says of an entry.
+//! What a secret says about an entry.
 ghost use Rattle.std.specs.Prelude.{◌≡◌};
 ghost use Rattle.bg_dice.specs.Rolls.{IsRuling, dice_in as dice_of_entry, opens_game as is_opening};
 
@@ -7,18 +7,18 @@ use crate::secrets::Secret;
 use bg_match::{Entry, Number};
 use bg_turns::Dice;
 
-/// What a secret says of an entry.
+/// What a secret says about an entry.
 #[derive(Clone, Copy, Debug, PartialEq, Eq)]
 pub enum Ruling {
     /// The entry has no dice.
     NoDice,
-    /// It has the dice of the secret, of this attempt.
+    /// The entry has the dice of the secret, from this attempt.
     Own(u16),
-    /// The secret has other dice, or none.
+    /// The secret has other dice for the entry, or none.
     Other(Option<Drawn>),
 }
 
-/// Returns what a secret says of the entry behind so many others.
+/// Returns what a secret says about the entry after `before` others.
 pub fn ruling_of(secret: &Secret, before: Number, entry: &Entry) -> Ruling
     ensures { IsRuling secret.now before entry.now result }
 {
@@ -31,7 +31,7 @@ pub fn ruling_of(secret: &Secret, before: Number, entry: &Entry) -> Ruling
     }
 }
 
-/// Returns the dice of an entry, in the order in which it names them.
+/// Returns the dice of an entry, if it has any, in the order in which it names them.
 fn dice_in(entry: &Entry) -> Option<Dice>
     ensures { result ≡ dice_of_entry entry.now }
 {

@@ -1,4 +1,4 @@
-//! The secret that the dice of a match are made of, and what is told of it.
+//! The secret from which the dice of a match are made, and what is published about it.
 ghost use Rattle.std.specs.Prelude.{◌≡◌};
 ghost use Rattle.sha2.specs.Sha256.{sha256};
 
@@ -6,7 +6,7 @@ use sha2::{Digest as Hasher, Sha256};
 use std::fmt;
 use std::fmt::{Display, Formatter, Write};
 
-/// The bytes that the dice of a match are made of.
+/// The bytes from which the dice of a match are made.
 pub type Secret = [u8; 32];
 
 /// The SHA-256 of a secret.
@@ -21,12 +21,13 @@ pub fn digest_of(secret: &Secret) -> Digest
     hasher.finalize()
 }
 
-/// Why bytes are no secret.
+/// The reason why bytes are not a secret.
 #[derive(Clone, Copy, Debug, PartialEq, Eq)]
 pub enum SecretFault {
-    /// They are neither 32 bytes nor the lines that tell a secret.
+    /// They are neither 32 bytes nor the lines that publish a secret.
     NoSecret,
-    /// They are the line that is told before the match is over: the secret is not told yet.
+    /// They are the line that is published before the match is over: the secret itself isn't
+    /// published yet.
     NotTold,
     /// The SHA-256 in the first line is not that of the secret in the second.
     OtherDigest,
@@ -45,11 +46,11 @@ impl Display for SecretFault {
     }
 }
 
-/// Returns the secret that bytes tell: the 32 bytes themselves, or lines as `told_text` writes
-/// them.
+/// Returns the secret that bytes contain: either the 32 bytes themselves, or the secret in lines as
+/// `told_text` writes them.
 ///
 /// # Errors
-/// Why they tell none.
+/// The reason why the bytes contain no secret.
 pub fn secret_in(bytes: &[u8]) -> Result<Secret, SecretFault> {
     if let Ok(secret) = <Secret>::try_from(bytes) {
         return Ok(secret);
@@ -60,7 +61,7 @@ pub fn secret_in(bytes: &[u8]) -> Result<Secret, SecretFault> {
     }
 }
 
-/// Returns the secret that lines tell.
+/// Returns the secret in lines as `told_text` writes them.
 fn secret_told(text: &str) -> Result<Secret, SecretFault> {
     let (digest, rest) = match word_behind("sha256 ", text) {
         Some((digest, "")) => return Err(fault_without_secret(digest)),
@@ -79,7 +80,7 @@ fn secret_told(text: &str) -> Result<Secret, SecretFault> {
     }
 }
 
-/// Returns why a line with these digits alone tells no secret.
+/// Returns the fault of a text that has only the line `sha256 DIGITS`.
 fn fault_without_secret(digits: &str) -> SecretFault {
     match bytes_of(digits) {
         Some(_) => SecretFault::NotTold,
@@ -87,12 +88,12 @@ fn fault_without_secret(digits: &str) -> SecretFault {
     }
 }
 
-/// Returns what stands behind a word in the first line of a text, and what follows the line.
+/// Returns what follows a word in the first line of a text, and what follows the line.
 fn word_behind<'a>(word: &str, text: &'a str) -> Option<(&'a str, &'a str)> {
     text.strip_prefix(word)?.split_once('\n')
 }
 
-/// Returns the 32 bytes that 64 hexadecimal digits say.
+/// Returns the 32 bytes that 64 hexadecimal digits represent.
 pub(crate) fn bytes_of(digits: &str) -> Option<[u8; 32]> {
     let mut bytes = [0; 32];
     match hex::decode_to_slice(digits, &mut bytes) {

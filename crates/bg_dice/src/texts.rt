@@ -1,15 +1,15 @@
-//! What is told of the secret of dice, in lines.
+//! What is published about the secret of dice, in lines.
 ghost use Rattle.std.specs.Prelude.{◌≡◌, ◌++◌, IfOk, OnOk, option_copied};
 ghost use Rattle.bg_dice.specs.Secrets.{told_line, told_text as text_of_told};
 
 use bg_text::put_text;
 use std::alloc::{AllocError, Global};
 
-/// Returns what is told of the dice of a match. It is the line of the SHA-256, if that was told
-/// before the first roll, and the line of the secret, once the match is over.
+/// Returns what is published about the dice of a match. It is the line of the SHA-256, if that was
+/// published before the first roll, and the line of the secret, once the match is over.
 ///
 /// # Errors
-/// AllocError where there is no memory for it.
+/// `AllocError` if memory runs out.
 pub fn told_text(
     alloc: Global,
     digest: Option<&[u8; 32]>,

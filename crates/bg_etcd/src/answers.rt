@@ -1,5 +1,5 @@
-//! The answers to requests, which are read by the names of their fields: etcd leaves out what is
-//! false, zero or empty, and writes 64-bit numbers as texts.
+//! The answers to requests. Their fields are found by name: etcd omits what is false, zero or
+//! empty, and writes 64-bit numbers as strings.
 
 use crate::changes::File;
 use crate::faults::Fault;
@@ -13,7 +13,7 @@ use std::alloc::Global;
 pub struct Page {
     pub revision: u64,
     pub files: Vec<File>,
-    /// Whether there are more behind them.
+    /// Whether more files follow.
     pub has_more: bool,
 }
 
@@ -22,16 +22,17 @@ pub struct Page {
 pub struct Taken {
     /// Whether the changes were made.
     pub is_taken: bool,
-    /// The revision of that; where they were refused, the one at which that was decided.
+    /// The revision of the changes; if they were refused, the one at which that was decided.
     pub revision: u64,
-    /// The files of the folder as they are, where changes of it alone were refused.
+    /// The current files of the folder, if the transaction was refused and changes only one folder.
     pub files: Vec<File>,
 }
 
-/// Returns the value of an answer with this status.
+/// Parses the body of an answer with this status.
 ///
 /// # Errors
-/// `Refused` where it is an error, with etcd's reason; `Unreadable` where it is no JSON.
+/// `Refused` if the status says that it is an error, with etcd's reason; `Unreadable` if it isn't
+/// JSON.
 pub(crate) fn value_in(alloc: Global, status: u16, body: &[u8]) -> Result<Value, Fault> {
     let value = match Value::from_slice(alloc, body) {
         Ok(value) => value,
@@ -45,12 +46,12 @@ pub(crate) fn value_in(alloc: Global, status: u16, body: &[u8]) -> Result<Value,
     Err(Fault::Refused(status, String::from_str(alloc, reason)?))
 }
 
-/// Returns the text in a member of an object.
+/// Returns the string in a field of an object.
 pub(crate) fn text_in<'a>(value: &'a Value, member: &str) -> Option<&'a str> {
     value.get(member)?.as_str()
 }
 
-/// Returns the number in a member of an object, which is a text of digits; 0 where there is none.
+/// Returns the number in a field of an object, which is a string of digits; 0 if there is none.
 pub(crate) fn number_in(value: &Value, member: &str) -> u64 {
     match text_in(value, member) {
         Some(digits) => digits.parse().unwrap_or(0),
@@ -58,7 +59,7 @@ pub(crate) fn number_in(value: &Value, member: &str) -> u64 {
     }
 }
 
-/// Returns the revision in the head of an answer.
+/// Returns the revision in the header of an answer.
 fn revision_of(value: &Value) -> Result<u64, Fault> {
     match value.get("header") {
         Some(header) => Ok(number_in(header, "revision")),
@@ -66,7 +67,7 @@ fn revision_of(value: &Value) -> Result<u64, Fault> {
     }
 }
 
-/// Returns the bytes in a member of an object; none where there is no such member.
+/// Returns the bytes that a field of an object has as base64; no bytes if there is no such field.
 pub(crate) fn bytes_in(alloc: Global, value: &Value, member: &str) -> Result<Vec<u8>, Fault> {
     let Some(text) = text_in(value, member) else {
         return Ok(Vec::new(alloc));
@@ -77,7 +78,7 @@ pub(crate) fn bytes_in(alloc: Global, value: &Value, member: &str) -> Result<Vec
     }
 }
 
-/// Returns the name of the file whose key is in an object; None where the key is another's.
+/// Returns the name of the file whose key is in an object; `None` if the key isn't that of a file.
 pub(crate) fn name_in(alloc: Global, value: &Value) -> Result<Option<String>, Fault> {
     let key = bytes_in(alloc, value, "key")?;
     let Ok(key) = str::from_utf8(&key) else {
@@ -89,7 +90,7 @@ pub(crate) fn name_in(alloc: Global, value: &Value) -> Result<Option<String>, Fa
     }
 }
 
-/// Returns the files in a member `kvs` of an object.
+/// Returns the files in the field `kvs` of an object.
 fn files_in(alloc: Global, value: &Value) -> Result<Vec<File>, Fault> {
     let mut files = Vec::new(alloc);
     let Some(list) = value.get("kvs").and_then(Value::as_array) else {
@@ -115,8 +116,8 @@ fn files_in(alloc: Global, value: &Value) -> Result<Vec<File>, Fault> {
 /// Returns the files in the answer to a request for files.
 ///
 /// # Errors
-/// `Refused` where the answer is an error, with etcd's reason; `Unreadable` where it is none of
-/// etcd's; `Memory` where there is none for it. So of all functions here.
+/// `Refused` if the answer is an error, with etcd's reason; `Unreadable` if it isn't an answer of
+/// etcd; `Memory` if memory runs out. The same holds for all functions here.
 pub fn page_in(alloc: Global, status: u16, body: &[u8]) -> Result<Page, Fault> {
     let value = value_in(alloc, status, body)?;
     let has_more = match value.get("more") {
@@ -130,12 +131,13 @@ pub fn page_in(alloc: Global, status: u16, body: &[u8]) -> Result<Page, Fault> {
     })
 }
 
-/// Returns the revision of any answer.
+/// Returns the revision in any answer.
 pub fn revision_in(alloc: Global, status: u16, body: &[u8]) -> Result<u64, Fault> {
     revision_of(&value_in(alloc, status, body)?)
 }
 
-/// Returns the answer to a transaction. Where nothing says that it was taken, it was refused.
+/// Returns the answer to a transaction. If it doesn't say that the transaction succeeded, the
+/// transaction was refused.
 pub fn taken_in(alloc: Global, status: u16, body: &[u8]) -> Result<Taken, Fault> {
     let value = value_in(alloc, status, body)?;
     let is_taken = match value.get("succeeded") {

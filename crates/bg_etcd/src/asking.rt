@@ -1,4 +1,4 @@
-//! The bodies of requests. Each is posted to the address that stands beside it.
+//! The bodies of requests. Each is posted to the path that its function names.
 
 use crate::changes::{Changes, File};
 use crate::keys::{HEART, ROOT, ROOT_END, end_of, key_in, key_of};
@@ -6,11 +6,12 @@ use crate::limits::PAGE_FILES;
 use crate::writing::{put_bytes, put_comma, put_keys, put_number};
 use std::alloc::{AllocError, Global};
 
-/// Returns the request to `/v3/kv/range` for the next files behind one of this name, by their
-/// names, as they were at a revision. An empty name is that before all, and 0 the newest revision.
+/// Returns the request to `/v3/kv/range` for the next files after the name `behind`, in the order
+/// of their names, as they were at a revision. An empty name asks for the first files, and revision
+/// 0 for the newest revision.
 ///
 /// # Errors
-/// AllocError where there is no memory for it, as of all functions here.
+/// `AllocError` if memory runs out, as for all functions here.
 pub fn page_text(alloc: Global, behind: &str, revision: u64) -> Result<String, AllocError> {
     let mut from = key_of(alloc, behind)?;
     if !behind.is_empty() {
@@ -26,7 +27,7 @@ pub fn page_text(alloc: Global, behind: &str, revision: u64) -> Result<String, A
     Ok(out)
 }
 
-/// Returns the request to `/v3/kv/put` by which a file has a text, whatever is there.
+/// Returns the request to `/v3/kv/put` that gives a file a text, whatever the file has.
 pub fn put_text(alloc: Global, name: &str, text: &[u8]) -> Result<String, AllocError> {
     let key = key_of(alloc, name)?;
     let mut out = String::from_str(alloc, "{")?;
@@ -38,7 +39,7 @@ pub fn put_text(alloc: Global, name: &str, text: &[u8]) -> Result<String, AllocE
 }
 
 /// Returns the request to `/v3/kv/txn` that removes all files of a folder, unless any of them is
-/// newer than what is known. The answer of a refusal has them.
+/// newer than the known revision. If it is refused, the answer has the files.
 pub fn removal_text(alloc: Global, folder: &str, known: u64) -> Result<String, AllocError> {
     let mut out = String::from_str(alloc, "{\"compare\":[")?;
     put_newest(alloc, &mut out, folder, known)?;
@@ -50,7 +51,7 @@ pub fn removal_text(alloc: Global, folder: &str, known: u64) -> Result<String, A
     Ok(out)
 }
 
-/// Returns the request to `/v3/watch` that tells what changes, from a revision on.
+/// Returns the request to `/v3/watch` for all changes from a revision on.
 pub fn watch_text(alloc: Global, revision: u64) -> Result<String, AllocError> {
     let mut out = String::from_str(alloc, "{\"create_request\":{")?;
     put_keys(&mut out, ROOT, ROOT_END)?;
@@ -60,9 +61,9 @@ pub fn watch_text(alloc: Global, revision: u64) -> Result<String, AllocError> {
     Ok(out)
 }
 
-/// Returns the request to `/v3/kv/txn` that makes changes of folders, all of them or none: none
-/// unless each folder is as it is known, or is not there where it is to be new. If there is only
-/// one folder, the answer of a refusal has its files.
+/// Returns the request to `/v3/kv/txn` that makes changes of folders, all of them or none. They are
+/// made only if each folder is as it is known, or doesn't exist yet if it is to be new. If it is
+/// refused and there is only one folder, the answer has the folder's files.
 pub fn transaction_text(alloc: Global, all: &[Changes]) -> Result<String, AllocError> {
     let mut out = String::from_str(alloc, "{\"compare\":[")?;
     let mut is_first = true;
@@ -85,14 +86,14 @@ pub fn transaction_text(alloc: Global, all: &[Changes]) -> Result<String, AllocE
     Ok(out)
 }
 
-/// Adds the keys of all files in a folder.
+/// Adds the range of the keys of all files in a folder.
 fn put_folder(alloc: Global, out: &mut String, folder: &str) -> Result<(), AllocError> {
     let (from, end) = (key_in(alloc, folder, "")?, end_of(alloc, folder)?);
     put_keys(out, from.as_str(), end.as_str())
 }
 
-/// Adds the comparisons that hold only if a folder is as it is known: nothing in it is newer, and
-/// it is there still.
+/// Adds the compares that hold only if a folder is as it is known: nothing in it is newer, and it
+/// still exists.
 fn put_fence(alloc: Global, out: &mut String, changes: &Changes) -> Result<(), AllocError> {
     put_newest(alloc, out, changes.folder.as_str(), changes.known)?;
     if changes.known == 0 {
@@ -106,7 +107,7 @@ fn put_fence(alloc: Global, out: &mut String, changes: &Changes) -> Result<(), A
     out.push('}')
 }
 
-/// Adds the comparison that holds only if no file of a folder is newer than a revision.
+/// Adds the compare that holds only if no file of a folder is newer than a revision.
 fn put_newest(alloc: Global, out: &mut String, folder: &str, known: u64) -> Result<(), AllocError> {
     out.push('{')?;
     put_folder(alloc, out, folder)?;
@@ -115,7 +116,7 @@ fn put_newest(alloc: Global, out: &mut String, folder: &str, known: u64) -> Resu
     out.push('}')
 }
 
-/// Adds that files are to have these texts.
+/// Adds the puts that give files these texts.
 fn put_files(
     alloc: Global,
     out: &mut String,

@@ -1,4 +1,4 @@
-//! Changes of folders, and how many of them go into one transaction.
+//! Changes of folders, and how many of them fit into one transaction.
 
 use crate::limits::{MOST_BYTES, MOST_PUTS};
 use std::alloc::{AllocError, Global};
@@ -9,24 +9,24 @@ pub struct File {
     /// `FOLDER/FILE`.
     pub name: String,
     pub text: Vec<u8>,
-    /// The revision at which the store was given the text; 0 where it was not yet.
+    /// The revision at which the text was written to the store; 0 if it has not been written yet.
     pub revision: u64,
 }
 
-/// The files of a folder that are to have other texts: all of them, or none.
+/// The files of a folder that are to have new texts: either all of them, or none.
 #[derive(Drop)]
 pub struct Changes {
     pub folder: String,
-    /// The revision up to which the folder is known: 0 where it is to be new.
+    /// The revision up to which the folder is known; 0 if it is to be new.
     pub known: u64,
     pub files: Vec<File>,
 }
 
 impl Changes {
-    /// Returns changes of no file of a folder, which is known up to a revision.
+    /// Returns changes without files, of a folder that is known up to a revision.
     ///
     /// # Errors
-    /// AllocError where there is no memory for its name.
+    /// `AllocError` if memory runs out.
     pub fn new(alloc: Global, folder: &str, known: u64) -> Result<Changes, AllocError> {
         Ok(Changes {
             folder: String::from_str(alloc, folder)?,
@@ -35,10 +35,10 @@ impl Changes {
         })
     }
 
-    /// Adds the text of a file, in place of an older one of the same name.
+    /// Adds the text of a file, which replaces an older one of the same name.
     ///
     /// # Errors
-    /// AllocError where there is no memory for it.
+    /// `AllocError` if memory runs out.
     pub fn put(&mut self, file: File) -> Result<(), AllocError> {
         let name = file.name.as_str();
         self.files.retain(|older| older.name.as_str() != name);
@@ -46,12 +46,12 @@ impl Changes {
         Ok(())
     }
 
-    /// Returns whether a file of this name is among them.
+    /// Returns whether a file of this name is among the changes.
     pub fn has(&self, name: &str) -> bool {
         self.files.iter().any(|file| file.name.as_str() == name)
     }
 
-    /// Returns the number of bytes of its texts.
+    /// Returns the total number of bytes of the texts.
     pub fn bytes(&self) -> usize {
         let mut bytes = 0usize;
         for file in self.files.iter() {
@@ -60,13 +60,15 @@ impl Changes {
         bytes
     }
 
-    /// Returns whether a folder with these files has these changes, and nothing else in it is newer
-    /// than what is known: so they were made, by whomever, and nothing behind them.
+    /// Returns whether a folder with these files has all of these changes, and nothing else in it
+    /// is newer than the known revision. Then the changes were made, by whomever, and nothing has
+    /// changed since.
     pub fn are_all_in(&self, files: &[File]) -> bool {
         self.files.iter().all(|file| has_file(files, file)) && self.has_newer(files)
     }
 
-    /// Returns whether each of these files that is newer than what is known is among the changes.
+    /// Returns whether each of these files that is newer than the known revision is among the
+    /// changes.
     fn has_newer(&self, files: &[File]) -> bool {
         for file in files.iter() {
             if file.revision > self.known && !has_file(&self.files, file) {
@@ -77,7 +79,7 @@ impl Changes {
     }
 }
 
-/// Returns whether a file is among others.
+/// Returns whether a file with this name and text is among others.
 fn has_file(files: &[File], file: &File) -> bool {
     for other in files.iter() {
         if other.name.as_str() == file.name.as_str() && other.text == file.text {
@@ -87,7 +89,7 @@ fn has_file(files: &[File], file: &File) -> bool {
     false
 }
 
-/// Cuts changes of folders into transactions.
+/// The size of a transaction, which decides how many changes of folders fit into it.
 #[derive(Clone, Copy, Debug, PartialEq, Eq)]
 pub struct Batches {
     puts: usize,
@@ -95,13 +97,13 @@ pub struct Batches {
 }
 
 impl Batches {
-    /// Begins a transaction, with no changes yet.
+    /// Begins a transaction without changes.
     pub fn new() -> Batches {
         Batches { puts: 0, bytes: 0 }
     }
 
-    /// Adds the changes of a folder to the transaction, if they fit into it with those before;
-    /// returns whether they do. The first ones always do.
+    /// Adds the changes of a folder to the transaction, if they fit in addition to those before.
+    /// Returns whether they fit; the first ones always do.
     pub fn take(&mut self, changes: &Changes) -> bool {
         let puts = self.puts.saturating_add(changes.files.len());
         let bytes = self.bytes.saturating_add(changes.bytes());

@@ -1,4 +1,4 @@
-//! Requests to a member, and its answers, over a connection that the caller has.
+//! Requests to a member, and its answers, over a connection of the caller.
 
 use crate::faults::Fault;
 use crate::limits::MOST_ANSWER;
@@ -9,7 +9,7 @@ use std::alloc::Global;
 use std::io;
 use std::io::{ErrorKind, Read, Write};
 
-/// The most fields in the head of an answer.
+/// The most header fields of an answer.
 const MOST_FIELDS: usize = 64;
 
 /// The most bytes that one call reads.
@@ -22,14 +22,14 @@ pub struct Exchange {
     client: Client,
     output: BytesMut,
     input: BytesMut,
-    /// The status of the answer; 0 before its head has come.
+    /// The status of the answer; 0 until its head has come.
     status: u16,
     body: Vec<u8>,
     is_whole: bool,
 }
 
 impl Exchange {
-    /// Returns the exchanges of a new connection.
+    /// Returns the exchange for a new connection.
     pub fn new(alloc: Global) -> Exchange {
         Exchange {
             alloc,
@@ -42,11 +42,11 @@ impl Exchange {
         }
     }
 
-    /// Begins to ask a member, which is at `host`, by posting a text to a path.
+    /// Begins a request to a member, which is at `host`, by posting a text to a path.
     ///
     /// # Errors
-    /// `Memory` where there is none for it; `Unreadable` where the answer before is not whole, or
-    /// the host can't be named in a request.
+    /// `Memory` if memory runs out; `Unreadable` if the previous answer is incomplete, or the host
+    /// can't be named in a request.
     pub fn ask(&mut self, host: &str, path: &str, text: &str) -> Result<(), Fault> {
         let headers = [
             Header {
@@ -74,22 +74,21 @@ impl Exchange {
         !self.output.is_empty()
     }
 
-    /// Sends once what waits; returns how many bytes went.
+    /// Writes once what waits to be sent; returns the number of bytes written.
     ///
     /// # Errors
-    /// Why nothing could be sent.
+    /// The reason why nothing can be sent.
     pub fn write_to<W: Write>(&mut self, writer: &mut W) -> io::Result<usize> {
         let count = writer.write(self.output.as_slice())?;
         self.output.advance(count.min(self.output.len()));
         Ok(count)
     }
 
-    /// Reads once; returns how many bytes came, which is 0 where the member has closed its side.
+    /// Reads once; returns the number of bytes read, which is 0 if the member has closed its side.
     ///
     /// # Errors
-    /// `Away` where nothing could be read, or the member closed within an answer; `Unreadable`
-    /// where what came is no answer, or is longer than `MOST_ANSWER`; `Memory` where there is none
-    /// for it.
+    /// `Away` if nothing can be read, or the member closed within an answer; `Unreadable` if what
+    /// came isn't an answer, or is longer than `MOST_ANSWER`; `Memory` if memory runs out.
     pub fn read_from<R: Read>(&mut self, reader: &mut R) -> Result<usize, Fault> {
         let mut buffer = [0u8; MOST_READ];
         let count = reader.read(&mut buffer)?;
@@ -107,7 +106,7 @@ impl Exchange {
         Ok(count)
     }
 
-    /// Takes in the next part of what came; returns whether there may be more.
+    /// Parses the next part of what came; returns whether there may be more.
     fn step(&mut self) -> Result<bool, Fault> {
         let mut fields = [EMPTY_HEADER_SPAN; MOST_FIELDS];
         let read = self.client.read(self.input.as_slice(), &mut fields)?;
@@ -144,16 +143,16 @@ impl Exchange {
         }
     }
 
-    /// Returns whether a further request can be sent by this connection.
+    /// Returns whether another request can be sent on this connection.
     pub fn is_idle(&self) -> bool {
         self.client.is_idle() && self.output.is_empty()
     }
 
-    /// Takes the next line of an answer that never ends, which is that of a watch; None until one
-    /// is whole.
+    /// Takes the next line of an answer that never ends, which is that of a watch; `None` until a
+    /// whole line has come.
     ///
     /// # Errors
-    /// `Refused` where the answer is an error; `Memory` where there is none for the line.
+    /// `Refused` if the answer is an error; `Memory` if memory runs out.
     pub fn take_line(&mut self) -> Result<Option<Vec<u8>>, Fault> {
         if self.status != 0 && self.status != 200 {
             return Err(Fault::Refused(self.status, String::new(self.alloc)));
@@ -166,10 +165,10 @@ impl Exchange {
         Ok(Some(line))
     }
 
-    /// Fails where a member has ended an answer that is never to end.
+    /// Fails if a member has ended an answer that is never to end.
     ///
     /// # Errors
-    /// `Away` where it has.
+    /// `Away` if it has.
     pub fn check_goes_on(&self) -> Result<(), Fault> {
         if self.is_whole {
             return Err(Fault::Away(ErrorKind::UnexpectedEof));

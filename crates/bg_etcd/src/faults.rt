@@ -1,20 +1,20 @@
-//! Why a cluster has not done what it was asked.
+//! The reasons why a cluster has not carried out a request.
 
 use http1::{ReadError, WriteError};
 use std::alloc::AllocError;
 use std::io;
 use std::io::ErrorKind;
 
-/// Why a cluster has not done what it was asked, or not that anybody knows.
+/// The reason why a cluster has not carried out a request, or why nobody knows whether it has.
 #[derive(Debug, Drop)]
 pub enum Fault {
-    /// A member could not be reached, went away, or said nothing for too long.
+    /// A member could not be reached, disconnected, or was silent for too long.
     Away(ErrorKind),
-    /// A member refused it, with this status of HTTP, for this reason.
+    /// A member refused the request, with this HTTP status, for this reason.
     Refused(u16, String),
-    /// What came is no answer of etcd's.
+    /// What came isn't an answer of etcd.
     Unreadable,
-    /// There is no memory for it.
+    /// Memory has run out.
     Memory,
 }
 

@@ -2,10 +2,10 @@
 
 use std::alloc::{AllocError, Global};
 
-/// What all keys begin with.
+/// The prefix of all keys.
 pub(crate) const ROOT: &str = "bg_relay/";
 
-/// The end of all those keys: the character behind `/` is `0`.
+/// The exclusive end of the range of all keys: the character after `/` is `0`.
 pub(crate) const ROOT_END: &str = "bg_relay0";
 
 /// The file that each folder has from its first change to its last.
@@ -14,14 +14,15 @@ pub(crate) const HEART: &str = "match";
 /// Returns the key of a file by its name, which is `FOLDER/FILE`.
 ///
 /// # Errors
-/// AllocError where there is no memory for it, as of all functions here.
+/// `AllocError` if memory runs out, as for all functions here.
 pub(crate) fn key_of(alloc: Global, name: &str) -> Result<String, AllocError> {
     let mut key = String::from_str(alloc, ROOT)?;
     key.push_str(name)?;
     Ok(key)
 }
 
-/// Returns the key of a file in a folder. An empty name is that of the front of all such keys.
+/// Returns the key of a file in a folder. An empty name gives the start of the range of all such
+/// keys.
 pub(crate) fn key_in(alloc: Global, folder: &str, file: &str) -> Result<String, AllocError> {
     let mut key = key_of(alloc, folder)?;
     key.push('/')?;
@@ -29,7 +30,7 @@ pub(crate) fn key_in(alloc: Global, folder: &str, file: &str) -> Result<String, 
     Ok(key)
 }
 
-/// Returns the end of the keys of all files in a folder.
+/// Returns the exclusive end of the range of the keys of all files in a folder.
 pub(crate) fn end_of(alloc: Global, folder: &str) -> Result<String, AllocError> {
     let mut key = key_of(alloc, folder)?;
     key.push('0')?;

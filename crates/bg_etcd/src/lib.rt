@@ -1,8 +1,9 @@
-//! A client of an etcd cluster, by the JSON gateway of its members: what is to be sent, and what an
-//! answer says. It has no socket: [`Exchange`] writes to and reads from what its caller has.
+//! A client of an etcd cluster that uses the JSON gateway of its members: it writes requests and
+//! parses answers. It has no socket: [`Exchange`] uses the reader and the writer that its caller
+//! passes.
 //!
 //! A store has folders of files. A change of a folder names the revision up to which its author
-//! knows the folder; the cluster takes it only if nothing in the folder is newer.
+//! knows the folder. The cluster accepts the change only if nothing in the folder is newer.
 //!
 //! ```
 //! let changes = Changes::new(alloc, "ab12", 7)?;

@@ -1,4 +1,4 @@
-//! What a watch tells: a line of JSON for each revision, or for several.
+//! What a watch reports: a line of JSON for each revision, or for several revisions.
 
 use crate::answers::{bytes_in, name_in, number_in};
 use crate::faults::Fault;
@@ -10,26 +10,26 @@ use std::io::ErrorKind;
 #[derive(Drop)]
 pub struct Event {
     pub name: String,
-    /// None where the file is gone.
+    /// The new text; `None` if the file was removed.
     pub text: Option<Vec<u8>>,
     /// The revision of the change. All changes of one transaction have the same.
     pub revision: u64,
 }
 
-/// What a line of a watch tells.
+/// What a line of a watch says.
 #[derive(Drop)]
 pub enum News {
-    /// Changes, in their order; none where the line only says that the watch has begun.
+    /// The changes, in order; none if the line only says that the watch has begun.
     Events(Vec<Event>),
-    /// The watch has ended: the revision from which it was to tell is forgotten.
+    /// The watch has ended: the revision from which it was to report has been compacted.
     Ended,
 }
 
-/// Returns what a line of a watch tells.
+/// Returns what a line of a watch says.
 ///
 /// # Errors
-/// `Away` where it says that the watch fails, as that of a member that ends; `Unreadable` where it
-/// is none of etcd's; `Memory` where there is none for it.
+/// `Away` if the line says that the watch fails, for instance because the member stops;
+/// `Unreadable` if it isn't a line of etcd; `Memory` if memory runs out.
 pub fn news_in(alloc: Global, line: &[u8]) -> Result<News, Fault> {
     let Ok(value) = Value::from_slice(alloc, line) else {
         return Err(Fault::Unreadable);
@@ -43,7 +43,7 @@ pub fn news_in(alloc: Global, line: &[u8]) -> Result<News, Fault> {
     Ok(News::Events(events_in(alloc, told)?))
 }
 
-/// Returns the changes in what a line tells.
+/// Returns the changes in the result of a line.
 fn events_in(alloc: Global, told: &Value) -> Result<Vec<Event>, Fault> {
     let mut events = Vec::new(alloc);
     let Some(list) = told.get("events").and_then(Value::as_array) else {
@@ -59,7 +59,7 @@ fn events_in(alloc: Global, told: &Value) -> Result<Vec<Event>, Fault> {
     Ok(events)
 }
 
-/// Returns the change in an object; None where it is of another's key.
+/// Returns the change in an object; `None` if its key isn't that of a file.
 fn event_in(alloc: Global, value: &Value) -> Result<Option<Event>, Fault> {
     let Some(pair) = value.get("kv") else {
         return Err(Fault::Unreadable);
@@ -67,7 +67,7 @@ fn event_in(alloc: Global, value: &Value) -> Result<Option<Event>, Fault> {
     let Some(name) = name_in(alloc, pair)? else {
         return Ok(None);
     };
-    // A put has no type, since that is the type number 0.
+    // A put has no `type`: its number is 0, so etcd omits it.
     let text = match value.get("type") {
         Some(_) => None,
         None => Some(bytes_in(alloc, pair, "value")?),

@@ -13,12 +13,12 @@ use bg_world::{Event, Keeper, Outcome};
 /// The outcome of an action (docs/SERVING.md, "Scripts").
 #[derive(Clone, Copy, PartialEq, Eq)]
 pub enum Acted {
-    /// The action has been carried out, now or when it came before: the entry of its number answers
-    /// it.
+    /// The action has been carried out, now or by an earlier call: the entry with its number
+    /// answers it.
     Done,
     /// The seat has claimed the action, and the claim is saved. Its entry is not shown yet.
     Waits,
-    /// Nothing happened: another entry has the number, or none has it and it isn't the next one.
+    /// Nothing happened: another entry has the number, or none has it and it isn't the next number.
     OtherEntry,
     /// The seat refused to claim the action, for this reason.
     Refused(ChooseFault),
@@ -36,16 +36,18 @@ impl<K: Keeper> HostedMatch<K> {
     /// number makes the call idempotent: however often it is repeated, the player acts at most
     /// once.
     ///
-    /// Returns the first of these outcomes that fits:
+    /// Returns the first of these outcomes that applies:
     /// - `Failed` if the player's seat is down;
     /// - `Done` or `OtherEntry` if the number is not that of the next entry in the seat's record.
     ///   Then nothing happens, and the entry of that number decides: see [`is_answered`];
-    /// - `OtherEntry` if the seat has claimed another action under the number. Then nothing happens;
-    /// - `Done` or `Waits` if it has claimed this action, which goes on, by whether the entry is
-    ///   shown then;
+    /// - `OtherEntry` if the seat has claimed another action under the number. Then nothing
+    ///   happens;
+    /// - `Done` or `Waits` if it has claimed this action, which then continues, depending on
+    ///   whether the entry is shown afterwards;
     /// - `Refused` if the seat does not claim the action (docs/PROTOCOL.md, "Claims");
     /// - `Failed` if the claim can't be saved, also for lack of memory. The call may be repeated;
-    /// - `Done` or `Waits` once the claim is saved, by whether the entry is already shown.
+    /// - `Done` or `Waits` once the claim is saved, depending on whether the entry is already
+    ///   shown.
     pub fn act(&mut self, player: Player, number: Number, action: Action) -> Acted
         ensures { Acts K.is_honest (world_of K.Keeper self.old) player number action result (world_of K.Keeper self.new) }
     {
@@ -63,7 +65,7 @@ impl<K: Keeper> HostedMatch<K> {
     }
 
     /// Carries out an action that is to become the next entry of the seat's record, unless the seat
-    /// has claimed one under that number before.
+    /// has already claimed one under that number.
     fn act_next(&mut self, player: Player, number: Number, action: Action) -> Acted
         ensures { ActsNext K.is_honest (world_of K.Keeper self.old) player number action result (world_of K.Keeper self.new) }
     {
@@ -75,7 +77,7 @@ impl<K: Keeper> HostedMatch<K> {
         }
     }
 
-    /// Lets the action go on that a seat has claimed under this number, if it is the one that was
+    /// Continues the action that a seat has claimed under this number, if it is the one that was
     /// sent.
     fn act_again(&mut self, number: Number, is_same: bool) -> Acted
         ensures { ActsAgain K.is_honest (world_of K.Keeper self.old) number (IsTrue is_same) result (world_of K.Keeper self.new) }
@@ -87,7 +89,7 @@ impl<K: Keeper> HostedMatch<K> {
         self.answer_to(number)
     }
 
-    /// Carries out an action under a number under which the seat has claimed none.
+    /// Carries out an action under a number for which the seat has no claim.
     fn act_once(&mut self, player: Player, number: Number, action: Action) -> Acted
         ensures { ActsOnce K.is_honest (world_of K.Keeper self.old) player number action result (world_of K.Keeper self.new) }
     {
@@ -98,7 +100,7 @@ impl<K: Keeper> HostedMatch<K> {
         }
     }
 
-    /// Continues after the seat has claimed the action under a number, or refused it.
+    /// Continues after the seat has claimed the action under a number, or has refused it.
     fn after_choice(
         &mut self,
         player: Player,
@@ -118,7 +120,7 @@ impl<K: Keeper> HostedMatch<K> {
     /// it.
     ///
     /// Returns `Failed` if the save fails, after restarting the seat from its last save. Otherwise
-    /// returns `Done` or `Waits`, by whether the entry of this number is shown.
+    /// returns `Done` or `Waits`, depending on whether the entry of this number is shown.
     fn after_claim(&mut self, player: Player, number: Number) -> Acted
         ensures goes_on { GoesOn K.is_honest (world_of K.Keeper self.old) (world_of K.Keeper self.new) }
         ensures said { IsAnsweredBy number (world_of K.Keeper self.new) result }
@@ -135,7 +137,7 @@ impl<K: Keeper> HostedMatch<K> {
         self.answer_to(number)
     }
 
-    /// Returns `Done` or `Waits`, by whether the entry of this number is shown.
+    /// Returns `Done` or `Waits`, depending on whether the entry of this number is shown.
     fn answer_to(&self, number: Number) -> Acted
         ensures { TellsEntry number (world_of K.Keeper self.now) result }
     {
@@ -147,8 +149,8 @@ impl<K: Keeper> HostedMatch<K> {
     }
 }
 
-/// Returns whether the record has an entry of this number, from 1, that is the player's and answers
-/// the action.
+/// Returns whether the entry of this number, from 1, exists, is the player's, and answers the
+/// action.
 pub fn is_answered(log: &Record, player: Player, number: Number, action: &Action) -> bool
     ensures { IsTrue result ↔ IsAnswered log.now player number action.now }
 {

@@ -66,7 +66,7 @@ impl<K: Keeper + Drop> HostedMatch<K> {
         Ok(hosted)
     }
 
-    /// Returns the match with all its parties fresh: nothing is read from the keepers yet. Fails
+    /// Returns a match whose parties are all new: nothing has been read from the keepers yet. Fails
     /// like [`HostedMatch::begin`].
     fn fresh(
         alloc: Global,
@@ -130,15 +130,15 @@ impl<K: Keeper> HostedMatch<K> {
         self.restless
     }
 
-    /// Returns whether fewer entries are shown than the referee has saved, as after the start of a
-    /// long match: it takes some ticks until all are.
+    /// Returns whether fewer entries are shown than the referee has saved. After the start of a
+    /// long match, it takes some ticks until all are shown.
     pub fn is_behind(&self) -> bool {
         self.told() < self.saved
     }
 
-    /// Restarts each party whose last restart has failed, lets the seats and the teller send what
-    /// is due, and then lets all parties work until nothing moves. Call it again after a while if
-    /// [`HostedMatch::is_restless`] says so.
+    /// Restarts each party whose last restart has failed, and lets the seats and the teller send
+    /// what is due. Then lets all parties work until nothing changes. Call it again after a while
+    /// if [`HostedMatch::is_restless`] says so.
     pub fn tick(&mut self)
         ensures { GoesOn K.is_honest (world_of K.Keeper self.old) (world_of K.Keeper self.new) }
     {
@@ -149,7 +149,7 @@ impl<K: Keeper> HostedMatch<K> {
         self.settle();
     }
 
-    /// Restarts each party that saves and is down, since its last restart has failed.
+    /// Restarts each party that saves and is down because its last restart has failed.
     fn restart_lost(&mut self)
         ensures { GoesOn K.is_honest (world_of K.Keeper self.old) (world_of K.Keeper self.new) }
     {
@@ -158,7 +158,7 @@ impl<K: Keeper> HostedMatch<K> {
         }
     }
 
-    /// Restarts a party that is down.
+    /// Restarts a party if it is down.
     fn restart_if_down(&mut self, party: u8)
         ensures { GoesOn K.is_honest (world_of K.Keeper self.old) (world_of K.Keeper self.new) }
     {
@@ -167,8 +167,8 @@ impl<K: Keeper> HostedMatch<K> {
         }
     }
 
-    /// Restarts the parties that save from what their keepers hold, and lets all parties work until
-    /// nothing moves.
+    /// Restarts each party that saves, from what its keeper holds. Then lets all parties work until
+    /// nothing changes.
     fn go_on(&mut self)
         ensures { Begins K.is_honest (world_of K.Keeper self.old) (world_of K.Keeper self.new) }
     {

@@ -1,5 +1,5 @@
 //! Hosts a whole match in one process: the referee, the two seats and one watcher, over a queue in
-//! memory. It is for servers whose players bring nothing but a connection.
+//! memory. It is for servers whose players need nothing but a connection.
 //!
 //! ```
 //! let terms = Terms {

@@ -8,13 +8,13 @@ use bg_wire::Datagram;
 use bg_world::{DeviceFault, Link, Taken, count_failed, note_taken};
 use std::alloc::Global;
 
-/// The largest number of datagrams that wait at once. A datagram that is sent when so many wait is
-/// lost, as on a network.
+/// The largest number of datagrams that can wait at once. A datagram that is sent while this many
+/// wait is lost, as on a network.
 pub const MOST_WAITING: usize = 64;
 
-/// An honest link between the parties of one process: it hands over each datagram at most once, and
-/// the datagrams to one party in the order in which they were sent. It keeps at most 64 datagrams
-/// that wait, and nothing of those that have been taken.
+/// An honest link between the parties of one process. It hands over each datagram at most once, and
+/// the datagrams to one party in the order in which they were sent. It keeps at most 64 waiting
+/// datagrams, and nothing of those that have been taken.
 #[derive(Drop)]
 pub struct QueueLink {
     waiting: Waiting,
@@ -44,7 +44,7 @@ impl QueueLink {
 impl Link for QueueLink {
     ghost is_honest = { Unit {0} };
 
-    // It isn't known beforehand which sends fail: those that find the queue full, or no memory.
+    // Which sends fail isn't known beforehand: those that find the queue full, or no memory.
     ghost plan = { λ _. None };
 
     ghost sent = { λ link. link.waiting.sent.datagrams };

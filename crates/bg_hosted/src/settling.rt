@@ -1,4 +1,4 @@
-//! Lets the parties of a match work until nothing moves.
+//! Lets the parties of a match work until nothing changes.
 
 use crate::hosted_matches::{FOLLOWERS, HostedMatch};
 use bg_match::Actor;
@@ -6,8 +6,7 @@ use bg_referee::DueFault;
 use bg_wire::REFEREE;
 use bg_world::{Event, Keeper, Outcome};
 
-/// The largest number of turns in one call of [`HostedMatch::settle`]. The next tick does what is
-/// left then.
+/// The largest number of turns in one call of [`HostedMatch::settle`]. The next tick does the rest.
 const MOST_TURNS: u32 = 4096;
 
 /// The largest number of datagrams that a party takes in one turn.
@@ -20,9 +19,9 @@ impl<K: Keeper> HostedMatch<K> {
     ghost use Rattle.bg_hosted.specs.Going.{GoesOn};
     ghost use Rattle.bg_hosted.specs.HostedMatches.{world_of};
 
-    /// Lets the parties take datagrams, add the entries that are due, save what is new and only
-    /// then send it, in turns, until nothing moves. Notes whether something is left for the next
-    /// tick.
+    /// Lets the parties take datagrams, add the entries that are due, save what is new, and only
+    /// then send it. Repeats this until nothing changes. Notes whether something is left for the
+    /// next tick.
     pub(crate) fn settle(&mut self)
         ensures { GoesOn K.is_honest (world_of K.Keeper self.old) (world_of K.Keeper self.new) }
     {
@@ -35,7 +34,7 @@ impl<K: Keeper> HostedMatch<K> {
         }
     }
 
-    /// Makes one turn, and returns whether anything moved.
+    /// Runs one turn, and returns whether anything changed.
     fn turn(&mut self) -> bool
         ensures { GoesOn K.is_honest (world_of K.Keeper self.old) (world_of K.Keeper self.new) }
     {
@@ -104,7 +103,7 @@ impl<K: Keeper> HostedMatch<K> {
     }
 
     /// Gives the referee random words, at most 16, until it has nothing to add by itself. Returns
-    /// whether it had.
+    /// whether it had anything to add.
     fn add_due(&mut self) -> bool
         ensures { GoesOn K.is_honest (world_of K.Keeper self.old) (world_of K.Keeper self.new) }
     {
@@ -119,7 +118,7 @@ impl<K: Keeper> HostedMatch<K> {
     }
 
     /// Lets the referee save if what it holds differs from its last save. Returns whether it saved.
-    /// If the save fails, the referee restarts from its last one.
+    /// If the save fails, restarts the referee from its last one.
     fn save_news(&mut self) -> bool
         ensures { GoesOn K.is_honest (world_of K.Keeper self.old) (world_of K.Keeper self.new) }
     {

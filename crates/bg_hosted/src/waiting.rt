@@ -1,4 +1,4 @@
-//! The datagrams of a queue that nobody has taken yet.
+//! The datagrams in a queue that nobody has taken yet.
 ghost use Rattle.std.specs.Prelude.{◌≡◌, ◌≤◌, ◌<◌, ◌∷◌, ◌++◌, [], Contains, IfSome, IsTrue, OnErr, OnOk};
 ghost use Rattle.std.specs.Prelude.{slice_index_or, vec_len};
 ghost use Rattle.bg_hosted.specs.Queues.{most_waiting, were_sent};
@@ -11,7 +11,7 @@ use bg_wire::Datagram;
 use bg_world::DeviceFault;
 use std::alloc::Global;
 
-/// The datagrams that nobody has taken yet, the oldest first: at most 64. Each was sent.
+/// The datagrams that were sent and that nobody has taken yet, the oldest first; at most 64.
 #[derive(Drop)]
 pub(crate) struct Waiting {
     datagrams: Vec<Datagram>,

@@ -1,4 +1,4 @@
-//! The clients of a server: who comes.
+//! The clients of a server: accepting connections.
 
 use crate::clients::Client;
 use crate::crowds::Crowd;
@@ -13,7 +13,7 @@ use std::io;
 const MOST_ACCEPTED: u32 = 64;
 
 impl<'a> Crowd<'a> {
-    /// Accepts connections. One more than are allowed is closed at once.
+    /// Accepts connections. Any beyond [`MOST_CLIENTS`] are closed at once.
     pub(crate) fn accept(&mut self, now: u64) {
         self.is_accepting |= self.sockets.is_called();
         for _ in 0..MOST_ACCEPTED {
@@ -24,17 +24,17 @@ impl<'a> Crowd<'a> {
                 Ok((stream, _)) => {
                     let _ = self.take_in(stream, now);
                 }
-                // Nobody waits; or there are too many open files, and it is tried again in the next
-                // second.
+                // No connection waits, or too many files are open; accepting is tried again in the
+                // next second.
                 Err(_) => self.is_accepting = false,
             }
         }
     }
 
-    /// Takes a client in, where there is room.
+    /// Adds a client if there is room for it, and closes its connection otherwise.
     ///
     /// # Errors
-    /// Why it could not be: then it is closed.
+    /// The reason why the client can't be added. Its connection is then closed.
     fn take_in(&mut self, mut stream: TcpStream, now: u64) -> io::Result<()> {
         let free = self.free_index();
         if free >= MOST_CLIENTS {
@@ -46,7 +46,7 @@ impl<'a> Crowd<'a> {
         Ok(self.put(free, keys, stream, now)?)
     }
 
-    /// Puts a client at a free index. It is heard in this turn.
+    /// Puts a client at a free index, and marks it to be heard in this turn.
     fn put(
         &mut self,
         free: usize,

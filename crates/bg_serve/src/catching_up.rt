@@ -1,21 +1,21 @@
-//! How a server reads all that a store has: at its start, and where it may have missed changes.
+//! Reading all that a store has, at the start of a server and when it may have missed changes.
 
 use crate::clusters::Cluster;
 use bg_etcd::{File, Page, page_in, page_text};
 use bg_stores::{Trouble, parts_of};
 
-/// The files of the match at hand, as far as they were read, and what was found of all matches.
+/// The files of the current match that were read so far, and what was found about all matches.
 #[derive(Drop)]
 struct Reading {
     folder: String,
     files: Vec<File>,
-    /// The matches that were not known as they are.
+    /// The matches that were unknown or out of date.
     changed: Vec<String>,
     revision: u64,
 }
 
 impl<'a> Cluster<'a> {
-    /// Returns the files behind one of this name, as they were at a revision; 0 is the newest.
+    /// Returns the next files after the name `behind`, as they were at a revision; 0 is the newest.
     pub(crate) fn page(&mut self, behind: &str, revision: u64) -> Result<Page, Trouble> {
         let alloc = self.rt.alloc();
         let text = page_text(alloc, behind, revision)?;
@@ -23,11 +23,12 @@ impl<'a> Cluster<'a> {
         Ok(page_in(alloc, status, &body)?)
     }
 
-    /// Reads all matches of the store, as they are at one revision, and takes in those that were not
-    /// known as they are. Returns these, and those that are gone. The watch goes on behind it.
+    /// Reads all matches of the store at one revision, and takes in those that were unknown or out
+    /// of date. Returns these and those that are gone. The next watch starts after that revision.
     ///
     /// # Errors
-    /// Why the store could not be read, or the folder not be written.
+    /// The reason why the store can't be read or the folder can't be written; `Older` if the store
+    /// is older than what was read of it before.
     pub(crate) fn catch_up(&mut self) -> Result<Vec<String>, Trouble> {
         let alloc = self.rt.alloc();
         let mut page = self.page("", 0)?;
@@ -56,7 +57,8 @@ impl<'a> Cluster<'a> {
         self.end_reading(reading)
     }
 
-    /// Adds a file to those of its match. Where it is the first of another, the one before is whole.
+    /// Adds a file to those of its match. If it is the first file of another match, the previous
+    /// match is complete.
     fn read_file(&mut self, reading: &mut Reading, file: File) -> Result<(), Trouble> {
         let Some((folder, _)) = parts_of(file.name.as_str()) else {
             return Ok(());
@@ -70,7 +72,7 @@ impl<'a> Cluster<'a> {
         Ok(())
     }
 
-    /// Takes in the match whose files are whole, unless it is known as it is.
+    /// Takes in the match whose files are complete, unless its newest revision is known already.
     fn end_folder(&mut self, reading: &mut Reading) -> Result<(), Trouble> {
         let mut files = Vec::new(self.rt.alloc());
         files.append(&mut reading.files)?;
@@ -89,7 +91,7 @@ impl<'a> Cluster<'a> {
         Ok(())
     }
 
-    /// Takes in that matches are gone of which the store has nothing.
+    /// Removes the matches of which the store has nothing. Returns all that have changed.
     fn end_reading(&mut self, reading: Reading) -> Result<Vec<String>, Trouble> {
         let Reading {
             mut changed,

@@ -1,4 +1,4 @@
-//! A client: a connection that speaks HTTP first, and perhaps becomes a socket then.
+//! A client: a connection that starts with HTTP, and may become a WebSocket.
 
 use crate::exchanges::{answer_http, read_http, write_http};
 use crate::limits::{MOST_BODY, MOST_HEAD, MOST_READS, MOST_WRITES};
@@ -14,23 +14,24 @@ use std::hash::RandomState;
 pub(crate) struct Client {
     alloc: Global,
     pub(crate) stream: TcpStream,
-    /// None once it is a socket.
+    /// `None` once it is a WebSocket.
     http: Option<Box<Connection>>,
-    /// Whose connection it is.
+    /// The address that the connection counts toward, if known.
     caller: Caller,
-    /// Who it is, once its request for a socket was granted.
+    /// The peer, once its request for a WebSocket was granted.
     upgraded: Option<Peer>,
     pub(crate) channel: Option<Channel>,
-    /// What became of it when it was heard last.
+    /// The state after it was last heard.
     pub(crate) state: Step,
-    /// Whether it is to go once it was sent what waits.
+    /// Whether it is to be closed once its pending output is sent.
     pub(crate) is_leaving: bool,
-    /// The second in which it began, the last answer was made, or it became a socket.
+    /// The second in which it connected, was last answered, or became a WebSocket.
     pub(crate) since: u64,
-    /// The second in which something was sent last, or nothing waited.
+    /// The second in which something was last sent, or nothing was waiting.
     pub(crate) sent: u64,
-    /// The seconds in which it was heard and asked last.
+    /// The second in which something last arrived from it.
     pub(crate) heard: u64,
+    /// The second in which it was last pinged.
     pub(crate) asked: u64,
 }
 
@@ -45,10 +46,10 @@ pub(crate) fn config() -> Config {
 }
 
 impl Client {
-    /// Returns the client at the other end of a connection, which has sent nothing yet.
+    /// Returns the client of a new connection, from which nothing has been read.
     ///
     /// # Errors
-    /// AllocError where there is no memory for it.
+    /// `AllocError` if memory runs out.
     pub(crate) fn new(
         alloc: Global,
         keys: RandomState,
@@ -72,13 +73,13 @@ impl Client {
         })
     }
 
-    /// Returns whether news may be of interest to it.
+    /// Returns whether it is a WebSocket, and so may get news.
     pub(crate) fn is_live(&self) -> bool {
         self.channel.is_some()
     }
 
-    /// Returns whether an answer that waits for it may rest on what one of these matches does. Of
-    /// whom HTTP speaks with, nobody knows which match an answer is about.
+    /// Returns whether a pending answer may depend on one of these matches. For HTTP, any pending
+    /// answer may, since it isn't known which match it is about.
     pub(crate) fn may_rest_on<K: Keeper + Drop, S: Store<K> + Drop>(
         &self,
         site: &Site<K, S>,
@@ -93,7 +94,7 @@ impl Client {
         }
     }
 
-    /// Notes that it is gone.
+    /// Tells the site that the client is gone.
     pub(crate) fn leave<K: Keeper + Drop, S: Store<K> + Drop>(&self, site: &mut Site<K, S>) {
         if let Some(channel) = &self.channel {
             site.end_socket(channel.peer());
@@ -101,8 +102,7 @@ impl Client {
         site.end_connection(self.caller);
     }
 
-    /// Reads what has come, and answers it. Sends nothing yet: first what was saved meanwhile is made
-    /// durable.
+    /// Reads what has arrived, and answers it. Sends nothing yet: the saves are made durable first.
     pub(crate) fn hear<K: Keeper + Drop, S: Store<K> + Drop>(
         &mut self,
         site: &mut Site<K, S>,
@@ -115,7 +115,7 @@ impl Client {
         };
     }
 
-    /// Sends what waits. It may be a socket then.
+    /// Sends what is waiting. The client may become a WebSocket then.
     pub(crate) fn tell<K: Keeper + Drop, S: Store<K> + Drop>(
         &mut self,
         site: &mut Site<K, S>,
@@ -150,7 +150,7 @@ impl Client {
         Step::More
     }
 
-    /// Sends answers. It may be a socket then.
+    /// Sends answers. The client may become a WebSocket then.
     fn tell_http<K: Keeper + Drop, S: Store<K> + Drop>(
         &mut self,
         site: &mut Site<K, S>,
@@ -173,7 +173,7 @@ impl Client {
         Step::More
     }
 
-    /// Makes a socket of it, where that was granted.
+    /// Turns the client into a WebSocket if that was granted; otherwise it is gone.
     fn end_http<K: Keeper + Drop, S: Store<K> + Drop>(
         &mut self,
         site: &mut Site<K, S>,
@@ -191,7 +191,7 @@ impl Client {
         Step::More
     }
 
-    /// Makes a socket of its connection.
+    /// Turns the connection into a WebSocket.
     fn begin_channel(&mut self, connection: Connection, peer: Peer, now: u64) {
         let (input, output) = connection.into_buffers();
         self.channel = Some(Channel::new(self.alloc, input, output, peer));

@@ -1,4 +1,4 @@
-//! The words on stores that several servers share.
+//! Messages about stores that several servers share.
 
 use crate::joining::Unjoined;
 use bg_console::{failed, say, wrong};
@@ -42,7 +42,7 @@ pub(crate) fn not_joined(rt: &HostRuntime, folder: &str, words: &str, why: &Unjo
     }
 }
 
-/// Returns the words on a trouble.
+/// Describes a trouble, for use in messages.
 fn reason_of(trouble: &Trouble) -> &str {
     match trouble {
         Trouble::Older => {
@@ -70,7 +70,7 @@ pub(crate) fn tell_trouble(rt: &HostRuntime, words: &str, trouble: &Trouble) {
     );
 }
 
-/// Says that no watch of a store tells what changes, or that one does again.
+/// Says that no watch of a store reports changes, or that one does again.
 pub(crate) fn tell_watch(rt: &HostRuntime, words: &str, is_untold: bool) {
     let words = Printable(words);
     if is_untold {
@@ -97,7 +97,7 @@ pub(crate) fn tell_well(rt: &HostRuntime, words: &str) {
     );
 }
 
-/// Says how many matches another server went on with first.
+/// Says in how many matches another server saved first.
 pub(crate) fn tell_lost(rt: &HostRuntime, count: usize) {
     if count > 0 {
         say(
@@ -107,7 +107,7 @@ pub(crate) fn tell_lost(rt: &HostRuntime, count: usize) {
     }
 }
 
-/// Says that the match of this name comes near the most that a store takes, or is beyond it.
+/// Says that a match comes near the size limit of the store, or exceeds it.
 pub(crate) fn tell_long(rt: &HostRuntime, name: &str, is_full: bool) {
     let name = Printable(name);
     if is_full {

@@ -1,6 +1,6 @@
-//! The store of a server that shares its matches with others: an etcd cluster. What all matches
-//! save in a turn is put there, each match by one comparison with the newest that this server knows
-//! of it, and only then is anybody told (docs/SERVING.md, "Several servers").
+//! The store of a server that shares its matches with others: an etcd cluster. All saves of a turn
+//! are put there, and only then are clients told. For each match, one comparison checks that the
+//! store has nothing newer than this server knows (docs/SERVING.md, "Several servers").
 
 use crate::save_counts::{SaveCounts, micros_since};
 use bg_etcd::{Changes, Fault};
@@ -12,10 +12,10 @@ use std::io;
 use std::rc::Rc;
 use std::time::{Duration, Instant};
 
-/// So many milliseconds are between two tries to put what was saved into the store.
+/// The milliseconds between two attempts to put saves into the store.
 const BETWEEN_COMMITS: u64 = 100;
 
-/// The store of a server. It is large, so it lies in a box.
+/// The store of a server. It is large, so it is boxed.
 #[derive(Drop)]
 pub(crate) struct Cluster<'a> {
     pub(crate) rt: &'a HostRuntime,
@@ -24,35 +24,38 @@ pub(crate) struct Cluster<'a> {
     pub(crate) saves: Rc<TurnSaves>,
     counts: Rc<SaveCounts>,
     pub(crate) known: Known,
-    /// The matches that this server has removed, and the revisions of that.
+    /// The matches that this server has removed, with the revisions of the removals.
     pub(crate) removed: Known,
     pub(crate) pending: Pending,
-    /// The matches with which another server went on first.
+    /// The matches that another server changed first.
     pub(crate) lost: Vec<String>,
     pub(crate) watch: Option<Box<Watch>>,
-    /// Which member is asked for the watch, and up to which revision it has told.
+    /// The member that is asked for the watch.
     pub(crate) watch_at: usize,
+    /// The revision up to which changes are known.
     pub(crate) watched: u64,
-    /// The seconds in which a watch has told something, or all was read; in which the watch was
-    /// begun or has told something; in which something was written that it is to tell; and in which
-    /// the files have followed.
+    /// The second in which a watch last reported something, or everything was read.
     pub(crate) told: u64,
+    /// The second in which the watch last began or reported something, or a read of everything was
+    /// tried.
     pub(crate) heard: u64,
+    /// The second in which a pulse last became due.
     pub(crate) pulsed: u64,
+    /// The second in which the files were last brought up to date.
     followed: u64,
-    /// Whether something is to be written that the watch is to tell.
+    /// Whether a pulse is to be written that the watch should report.
     pub(crate) is_pulse_due: bool,
     /// Whether changes may have been missed.
     pub(crate) is_stale: bool,
-    /// Whether the store was found to be older than what was read of it.
+    /// Whether the store was found to be older than what was read from it.
     pub(crate) is_older: bool,
 }
 
 impl<'a> Cluster<'a> {
-    /// Returns the store that these members have, of which nothing is known yet.
+    /// Returns the store of these members, of which nothing is known yet.
     ///
     /// # Errors
-    /// AllocError where there is no memory for it.
+    /// `AllocError` if memory runs out.
     pub(crate) fn new(
         copies: Copies<'a>,
         members: Members<'a>,
@@ -83,12 +86,12 @@ impl<'a> Cluster<'a> {
         Ok(Box::new(rt.alloc(), cluster)?)
     }
 
-    /// Puts into the store what was saved in the turn. Until this succeeds, nothing may be told that
-    /// rests on it. Returns the matches with which another server went on first: of these nothing
-    /// was put, and the folder has what the store has.
+    /// Puts the saves of the turn into the store. Until this succeeds, clients may be told nothing
+    /// that depends on them. Returns the matches that another server changed first. What was played
+    /// in these wasn't put, and the folder has what the store has.
     ///
     /// # Errors
-    /// Why it could not be put. Nothing is lost: the next call tries it again.
+    /// The reason why the saves can't be put. Nothing is lost: the next call tries again.
     pub(crate) fn commit(&mut self) -> Result<Vec<String>, Trouble> {
         self.check_age(self.watched)?;
         self.gather()?;
@@ -108,13 +111,13 @@ impl<'a> Cluster<'a> {
         Ok(lost)
     }
 
-    /// Adds changes of a match to what is to be put.
+    /// Adds changes of a match to the pending ones.
     pub(crate) fn add(&mut self, changes: Changes) -> Result<(), Trouble> {
         self.pending.changes.push(changes)?;
         Ok(())
     }
 
-    /// Commits as [`Cluster::commit`] does, and waits for answers as long as they take.
+    /// Commits like [`Cluster::commit`], and waits for answers as long as they take.
     pub(crate) fn commit_whole(&mut self) -> Result<Vec<String>, Trouble> {
         for _ in 0..u64::MAX {
             match self.commit() {
@@ -125,12 +128,12 @@ impl<'a> Cluster<'a> {
         Err(Trouble::NotYet)
     }
 
-    /// Asks a member; the others where it doesn't answer.
+    /// Asks a member, and the others if it doesn't answer.
     pub(crate) fn ask(&mut self, path: &str, text: &str) -> Result<Answer, Fault> {
         self.members.ask(path, text)
     }
 
-    /// Asks a member, and waits a while for the answer.
+    /// Asks a member, and waits a while for the answer; `NotYet` if none comes.
     pub(crate) fn ask_awhile(&mut self, path: &str, text: &str) -> Result<Answer, Trouble> {
         match self.members.ask_awhile(path, text)? {
             Some(answer) => Ok(answer),
@@ -138,12 +141,12 @@ impl<'a> Cluster<'a> {
         }
     }
 
-    /// Returns whether the store answers, and no changes may have been missed.
+    /// Returns whether the store answers and no changes may have been missed.
     pub(crate) fn is_well(&self) -> bool {
         self.members.is_answering && !self.is_stale
     }
 
-    /// Sorts by matches what was saved.
+    /// Moves the saves of the turn to the pending changes of their matches.
     fn gather(&mut self) -> Result<(), Trouble> {
         let saves = self.saves.clone()?;
         let Ok(mut fresh) = saves.fresh.try_borrow_mut() else {
@@ -177,7 +180,7 @@ impl<'a> Cluster<'a> {
         }
     }
 
-    /// Writes the files that are older than the store. What can't be written is tried again later.
+    /// Writes the files that are older than the store. What can't be written is retried later.
     pub(crate) fn follow_now(&self) {
         if let Ok(mut behind) = self.saves.behind.try_borrow_mut() {
             let copies = self.copies;
@@ -185,10 +188,10 @@ impl<'a> Cluster<'a> {
         }
     }
 
-    /// Waits a while, where the store could not be asked.
+    /// Pauses after a failed attempt to ask the store.
     ///
     /// # Errors
-    /// Why nothing can be waited for.
+    /// The reason why the process can't wait.
     pub(crate) fn pause(&self) -> io::Result<()> {
         let mut poll = Poll::new(self.rt)?;
         let mut events = Events::with_capacity(self.rt.alloc(), 1)?;

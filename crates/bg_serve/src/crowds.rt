@@ -1,4 +1,4 @@
-//! The clients of a server: who steps, and who goes.
+//! The clients of a server: which are served in a turn, and which are closed.
 
 use crate::clients::Client;
 use crate::sockets::Sockets;
@@ -10,24 +10,25 @@ use mio::Token;
 use std::io;
 use std::net::SocketAddr;
 
-/// The clients of a server, and what it waits for.
+/// The clients of a server, and the sockets that it waits for.
 #[derive(Drop)]
 pub(crate) struct Crowd<'a> {
     pub(crate) rt: &'a HostRuntime,
     pub(crate) sockets: Sockets,
+    /// The clients, by index; `None` where a slot is free.
     pub(crate) clients: Vec<Option<Box<Client>>>,
     /// The indices of clients that may have more to do.
     pub(crate) again: Vec<usize>,
-    /// Those of the clients that were heard in this turn, and are to be told what came of it.
+    /// The indices of the clients that were heard in this turn, and are to be answered.
     heard: Vec<usize>,
-    /// Whether connections may wait to be accepted.
+    /// Whether connections may be waiting to be accepted.
     pub(crate) is_accepting: bool,
-    /// Whoever has come while nothing could be saved.
+    /// The visitors who came while nothing could be saved.
     pub(crate) visitors: Vec<Visitor>,
 }
 
 impl<'a> Crowd<'a> {
-    /// Returns that nobody has come yet.
+    /// Creates a crowd without clients.
     pub(crate) fn none(rt: &'a HostRuntime, sockets: Sockets) -> Crowd<'a> {
         Crowd {
             rt,
@@ -40,19 +41,19 @@ impl<'a> Crowd<'a> {
         }
     }
 
-    /// Returns the address that it listens on.
+    /// Returns the address that the server listens on.
     ///
     /// # Errors
-    /// Why the system does not tell.
+    /// The reason why the system doesn't report it.
     pub(crate) fn address(&self) -> io::Result<SocketAddr> {
         self.sockets.listener.local_addr()
     }
 
-    /// Waits until a socket is ready, or time has come for something else. Where connections may
-    /// wait to be accepted, nothing tells of them again.
+    /// Waits until a socket is ready, or it is time for something else. Doesn't block if
+    /// connections may be waiting to be accepted, since no new event reports them.
     ///
     /// # Errors
-    /// Why the sockets can't be waited for.
+    /// The reason why the sockets can't be waited for.
     pub(crate) fn wait<K: Keeper + Drop, S: Store<K> + Drop>(
         &mut self,
         site: &Site<K, S>,
@@ -67,11 +68,11 @@ impl<'a> Crowd<'a> {
         self.sockets.wait(most)
     }
 
-    /// Reads and answers what has come of the clients whose sockets are ready, and of those that had
-    /// more to do. Sends nothing yet.
+    /// Reads and answers what has arrived from the clients whose sockets are ready, and from those
+    /// that had more to do. Sends nothing yet.
     ///
     /// # Errors
-    /// `OutOfMemory` alone, as of the other steps.
+    /// `OutOfMemory` only, as for the other steps.
     pub(crate) fn hear_ready<K: Keeper + Drop, S: Store<K> + Drop>(
         &mut self,
         site: &mut Site<K, S>,
@@ -86,7 +87,7 @@ impl<'a> Crowd<'a> {
         Ok(())
     }
 
-    /// Gathers the clients that are to be heard in this turn.
+    /// Collects the clients that are to be heard in this turn.
     fn gather_ready(&mut self) -> io::Result<()> {
         self.heard.clear();
         self.heard.append(&mut self.again)?;
@@ -99,7 +100,7 @@ impl<'a> Crowd<'a> {
         Ok(())
     }
 
-    /// Sends to the clients that were heard what waits for them.
+    /// Sends what is waiting to the clients that were heard.
     pub(crate) fn tell_heard<K: Keeper + Drop, S: Store<K> + Drop>(
         &mut self,
         site: &mut Site<K, S>,
@@ -117,8 +118,8 @@ impl<'a> Crowd<'a> {
         Ok(())
     }
 
-    /// Lets go of the clients that were heard in this turn, and have answers that may rest on what
-    /// one of these matches has not saved.
+    /// Closes the clients heard in this turn whose answers may depend on what one of these matches
+    /// hasn't saved.
     pub(crate) fn drop_answers<K: Keeper + Drop, S: Store<K> + Drop>(
         &mut self,
         site: &mut Site<K, S>,
@@ -138,7 +139,7 @@ impl<'a> Crowd<'a> {
         }
     }
 
-    /// Notes what became of a client.
+    /// Closes a client that is gone; notes one that may have more to do.
     fn note<K: Keeper + Drop, S: Store<K> + Drop>(
         &mut self,
         site: &mut Site<K, S>,
@@ -153,7 +154,7 @@ impl<'a> Crowd<'a> {
         Ok(())
     }
 
-    /// Lets go of a client.
+    /// Closes a client.
     fn close<K: Keeper + Drop, S: Store<K> + Drop>(&mut self, site: &mut Site<K, S>, index: usize) {
         if let Some(mut client) = self.take_out(index) {
             client.leave(site);
@@ -161,7 +162,7 @@ impl<'a> Crowd<'a> {
         }
     }
 
-    /// Takes a client out of its place.
+    /// Takes a client out of its slot.
     fn take_out(&mut self, index: usize) -> Option<Box<Client>> {
         match self.clients.get_mut(index) {
             Some(slot) => slot.take(),
@@ -169,7 +170,8 @@ impl<'a> Crowd<'a> {
         }
     }
 
-    /// Looks whether each client may stay, and has connections accepted again.
+    /// Counts the connections, closes the clients that may not stay, and has connections accepted
+    /// again.
     pub(crate) fn look<K: Keeper + Drop, S: Store<K> + Drop>(
         &mut self,
         site: &mut Site<K, S>,
@@ -187,7 +189,7 @@ impl<'a> Crowd<'a> {
         }
     }
 
-    /// Sends what each client lacks.
+    /// Sends each WebSocket what its peer lacks.
     pub(crate) fn send_news<K: Keeper + Drop, S: Store<K> + Drop>(
         &mut self,
         site: &mut Site<K, S>,

@@ -1,4 +1,4 @@
-//! The words on databases that can't be used.
+//! Messages about databases that can't be used.
 
 use crate::cluster_words::is_copy;
 use crate::fence::Unsaved;
@@ -8,9 +8,9 @@ use bg_journal::{Error, ErrorCode};
 use bg_processes::Printable;
 use bg_reports::Ending;
 
-/// Brings the files of a folder of matches up to date from the database that it was served with
-/// last, if it was with one. Ends with `Failed` where that can't be done. A copy of what a store has
-/// is used with a store alone.
+/// Brings the files of a folder of matches up to date from the database with which it was last
+/// served, if any. Ends with `Failed` if that can't be done. A folder that is a copy of a store can
+/// be used only with a store.
 pub(crate) fn settle_first(
     rt: &HostRuntime,
     folder: &str,
@@ -52,7 +52,7 @@ pub(crate) fn settle_first(
     }
 }
 
-/// Reports why the newest saves of a folder can't be had.
+/// Reports why the newest saves of a folder can't be read.
 fn not_settled(rt: &HostRuntime, folder: &str, path: &str, error: Error) -> Ending {
     let (folder, path) = (Printable(folder), Printable(path));
     match error {
@@ -72,7 +72,7 @@ fn not_settled(rt: &HostRuntime, folder: &str, path: &str, error: Error) -> Endi
     }
 }
 
-/// Reports that another process has a database.
+/// Reports that another process uses a database.
 fn is_busy(rt: &HostRuntime, path: Printable<'_>) -> Ending {
     failed(
         rt,
@@ -109,7 +109,7 @@ pub(crate) fn is_anothers(rt: &HostRuntime, path: &str) -> Ending {
     )
 }
 
-/// Says whether what was saved can be made durable, where that has changed.
+/// Logs whether the saves can be made durable, if that has changed.
 pub(crate) fn tell_outage(
     rt: &HostRuntime,
     path: &str,

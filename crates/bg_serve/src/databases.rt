@@ -1,6 +1,6 @@
-//! The database of a server: what all matches save in a turn is made durable there by one sync, and
-//! only then is anybody told. The files of the matches follow once a second, without syncs of their
-//! own; they are brought up to date from the database when it is given up, or at the next start
+//! The database of a server. All saves of a turn are made durable there by one sync, and only then
+//! are clients told. The files of the matches follow once a second, without syncs of their own.
+//! They are brought up to date from the database when it is given up, or at the next start
 //! (docs/SERVING.md, "A database").
 
 use crate::fence::{Fence, Unsaved};
@@ -16,10 +16,10 @@ use std::io;
 use std::rc::Rc;
 use std::time::{Duration, Instant};
 
-/// So many milliseconds are between two tries to commit.
+/// The milliseconds between two attempts to commit.
 const BETWEEN_COMMITS: u64 = 100;
 
-/// The database of a server. It is large, so it lies in a box.
+/// The database of a server. It is large, so it is boxed.
 #[derive(Drop)]
 pub(crate) struct Database<'a> {
     rt: &'a HostRuntime,
@@ -27,20 +27,20 @@ pub(crate) struct Database<'a> {
     folder: &'a str,
     path: &'a str,
     fence: Fence,
-    /// None after a failure: it is opened anew then.
+    /// `None` after a failure; then it is opened again.
     journal: Option<Journal>,
     saves: Rc<TurnSaves>,
     counts: Rc<SaveCounts>,
-    /// The second in which the files have followed last.
+    /// The second in which the files were last brought up to date.
     followed: u64,
 }
 
 impl<'a> Database<'a> {
-    /// Opens the database of a folder of matches, which is made where there is none. The saves of
-    /// the store are gathered for it from now on.
+    /// Opens the database of a folder of matches, and creates it if it is missing. From now on, the
+    /// saves of the store are gathered for it.
     ///
     /// # Errors
-    /// Why it can't be used.
+    /// The reason why it can't be used.
     pub(crate) fn begin(
         rt: &'a HostRuntime,
         folder: &'a str,
@@ -54,7 +54,7 @@ impl<'a> Database<'a> {
         Ok(database)
     }
 
-    /// Returns the database of a folder at a path, which is not open yet.
+    /// Returns the database of a folder at a path, not yet opened.
     fn new(
         rt: &'a HostRuntime,
         (folder, path): (&'a str, &'a str),
@@ -74,11 +74,11 @@ impl<'a> Database<'a> {
         Ok(Box::new(rt.alloc(), database)?)
     }
 
-    /// Makes durable what was saved in the turn. Until this succeeds, nothing may be told that rests
-    /// on what was saved.
+    /// Makes the saves of the turn durable. Until this succeeds, clients may be told nothing that
+    /// depends on them.
     ///
     /// # Errors
-    /// Why it could not be made durable. Nothing is lost: the next call tries it again.
+    /// The reason why they can't be made durable. Nothing is lost: the next call tries again.
     pub(crate) fn commit(&mut self) -> Result<(), Unsaved> {
         let saves = self.saves.clone()?;
         let (Ok(mut fresh), Ok(mut behind)) = (
@@ -102,8 +102,8 @@ impl<'a> Database<'a> {
         Ok(())
     }
 
-    /// Writes the files that are older than the database, once a second: a file that is saved more
-    /// often is written once. They aren't synced. What can't be written is tried a second later.
+    /// Writes the files that are older than the database, once a second and without syncs. A file
+    /// that is saved more often is written once. What can't be written is retried a second later.
     pub(crate) fn follow(&mut self, now: u64) {
         if now == self.followed {
             return;
@@ -117,17 +117,17 @@ impl<'a> Database<'a> {
         }
     }
 
-    /// Waits a while, where a commit has failed.
+    /// Pauses after a failed commit.
     ///
     /// # Errors
-    /// Why nothing can be waited for.
+    /// The reason why the process can't wait.
     pub(crate) fn pause(&self) -> io::Result<()> {
         let mut poll = Poll::new(self.rt)?;
         let mut events = Events::with_capacity(self.rt.alloc(), 1)?;
         poll.poll(&mut events, Some(Duration::from_millis(BETWEEN_COMMITS)))
     }
 
-    /// Writes changes to the database, which is opened anew after a failure.
+    /// Writes changes to the database. After a failure, the next call opens it again.
     fn write(&mut self, changes: &[Change]) -> Result<(), Unsaved> {
         self.open()?;
         let written = match &mut self.journal {
@@ -140,7 +140,7 @@ impl<'a> Database<'a> {
         written
     }
 
-    /// Opens the database, unless it is open.
+    /// Opens the database if it isn't open.
     fn open(&mut self) -> Result<(), Unsaved> {
         if self.journal.is_none() {
             self.journal = Some(self.fence.adopt(self.rt, self.path)?);

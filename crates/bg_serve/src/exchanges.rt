@@ -1,4 +1,4 @@
-//! The exchange of requests and answers with a client that speaks HTTP.
+//! The exchange of requests and responses with an HTTP client.
 
 use bg_site::{Caller, Peer, Site, Store};
 use bg_world::Keeper;
@@ -7,12 +7,12 @@ use mio::net::TcpStream;
 use std::io;
 use std::io::ErrorKind;
 
-/// What came of a read or a write.
+/// The outcome of a read or a write.
 #[derive(Clone, Copy)]
 pub(crate) enum Transfer {
     /// Bytes were read or written.
     Bytes,
-    /// It was interrupted, and can be tried again.
+    /// The call was interrupted, and can be retried.
     Nothing,
     /// Nothing can be read or written now.
     Blocked,
@@ -20,7 +20,7 @@ pub(crate) enum Transfer {
     Gone,
 }
 
-/// Returns what came of a read or a write that should have moved a byte at least.
+/// Returns the outcome of a read or a write that should have moved at least one byte.
 pub(crate) fn transfer_of(count: io::Result<usize>) -> Transfer {
     match count {
         Ok(0) => Transfer::Gone,
@@ -31,7 +31,8 @@ pub(crate) fn transfer_of(count: io::Result<usize>) -> Transfer {
     }
 }
 
-/// Reads once, where more is wanted. Returns whether anything came; None where the client is gone.
+/// Reads once, if the connection wants more. Returns `false` if it doesn't or nothing can be read
+/// now, and `None` if the client is gone.
 pub(crate) fn read_http(connection: &mut Connection, stream: &mut TcpStream) -> Option<bool> {
     if !connection.wants_read() {
         return Some(false);
@@ -39,8 +40,8 @@ pub(crate) fn read_http(connection: &mut Connection, stream: &mut TcpStream) -> 
     moved(connection.read_from(stream))
 }
 
-/// Writes once, where something waits. Returns whether anything went; None where the client is
-/// gone.
+/// Writes once, if output is queued. Returns `false` if none is or nothing can be written now, and
+/// `None` if the client is gone.
 pub(crate) fn write_http(connection: &mut Connection, stream: &mut TcpStream) -> Option<bool> {
     if !connection.wants_write() {
         return Some(false);
@@ -51,7 +52,8 @@ pub(crate) fn write_http(connection: &mut Connection, stream: &mut TcpStream) ->
     }
 }
 
-/// Returns whether a read or a write has done anything; None if the client is gone.
+/// Returns `false` if a read or a write would block, `None` if the client is gone, and `true`
+/// otherwise.
 fn moved(count: io::Result<usize>) -> Option<bool> {
     match count {
         Ok(_) => Some(true),
@@ -61,8 +63,8 @@ fn moved(count: io::Result<usize>) -> Option<bool> {
     }
 }
 
-/// Answers the requests that have come, and notes whose connection it is, and who it is where the
-/// site has granted it a socket.
+/// Answers the requests that have arrived, and notes in `caller` whose connection it is. If the
+/// site has granted a WebSocket, notes its peer in `upgraded`.
 pub(crate) fn answer_http<K: Keeper + Drop, S: Store<K> + Drop>(
     connection: &mut Connection,
     site: &mut Site<K, S>,

@@ -1,20 +1,20 @@
-//! The fence of a database: each turn that a server writes to it must follow the one that it has
-//! written last. So a server never writes over another one's saves, nor goes on over an older copy.
+//! The fence of a database: each turn that a server writes to it must follow the one that it wrote
+//! last. So a server never overwrites another server's saves or continues from an older copy.
 
 use crate::settling::{Owner, open_there};
 use bg_journal::{Change, Error, FileText, Journal, Swap};
 use std::alloc::{AllocError, Global};
 
-/// The name under which a database has the number of its newest turn, and whose it is.
+/// The name under which a database has its owner and the number of its newest turn.
 const TURN: &str = ".turn";
 
 /// Why the saves of a turn are not durable.
 #[derive(Clone, Copy)]
 pub(crate) enum Unsaved {
-    /// The database could not be opened, or written.
+    /// The database could not be opened or written.
     Failed(Error),
-    /// It is not as this server left it: another one has written to it, or an older copy is in its
-    /// place.
+    /// The database is not as this server left it: another server has written to it, or an older
+    /// copy has replaced it.
     Overtaken,
 }
 
@@ -30,7 +30,7 @@ impl From<AllocError> for Unsaved {
     }
 }
 
-/// Whose a database is, and how many turns this server has written to it.
+/// The owner of a database, and the number of turns that this server has written to it.
 #[derive(Drop)]
 pub(crate) struct Fence {
     owner: Owner,
@@ -43,7 +43,7 @@ impl Fence {
         Fence { owner, turn: 0 }
     }
 
-    /// Returns whose the database is.
+    /// Returns the owner of the database.
     pub(crate) fn owner(&self) -> &str {
         self.owner.as_str()
     }
@@ -56,8 +56,8 @@ impl Fence {
         })
     }
 
-    /// Opens the database, which is as this server left it. Of a turn that failed, it may have
-    /// nothing, or all.
+    /// Opens the database, and checks that it is as this server left it. It may have all or nothing
+    /// of a turn that failed.
     pub(crate) fn adopt(&mut self, rt: &HostRuntime, path: &str) -> Result<Journal, Unsaved> {
         let mut journal = open_there(rt, path)?;
         let found = journal.find(TURN)?;
@@ -65,7 +65,8 @@ impl Fence {
         Ok(journal)
     }
 
-    /// Takes over what a database says of its newest turn.
+    /// Adopts the newest turn of a database, which must be the one that this server wrote last or
+    /// the one after it.
     fn adopt_turn(&mut self, alloc: Global, found: Option<&[u8]>) -> Result<(), Unsaved> {
         let next = self.turn.saturating_add(1);
         if found == Some(self.text(alloc, next)?.as_slice()) {
@@ -97,7 +98,7 @@ impl Fence {
         Ok(())
     }
 
-    /// Returns what a database says whose newest turn has this number.
+    /// Returns the text under [`TURN`] in a database whose newest turn has this number.
     fn text(&self, alloc: Global, turn: u64) -> Result<Vec<u8>, AllocError> {
         let owner = self.owner.as_str();
         Ok(format!(in alloc; "{owner} {turn}")?.into_bytes())

@@ -1,5 +1,5 @@
-//! The folders of matches: each lies in the folder that is served, and has the files of a match as
-//! everywhere.
+//! The folders of matches. Each lies in the folder that is served, and has the usual files of a
+//! match.
 
 use crate::save_counts::SaveCounts;
 use crate::seat_files::read_seats;
@@ -25,16 +25,15 @@ pub struct FolderStore<'a> {
     pub(crate) folder: &'a str,
     failures: &'a Failures,
     counts: Rc<SaveCounts>,
-    /// Where the saves of a turn are gathered, if there is a database.
+    /// The place where the saves of a turn are gathered, if there is a database or a store.
     pub(crate) turn: Option<Rc<TurnSaves>>,
 }
 
 impl<'a> FolderStore<'a> {
-    /// Returns the store of the matches in a folder, whose keepers note their failures in
-    /// `failures`.
+    /// Returns the store of the matches in a folder. Its keepers note their failures in `failures`.
     ///
     /// # Errors
-    /// AllocError where there is no memory for it.
+    /// `AllocError` if memory runs out.
     pub fn new(
         rt: &'a HostRuntime,
         folder: &'a str,
@@ -49,11 +48,11 @@ impl<'a> FolderStore<'a> {
         })
     }
 
-    /// Gathers the saves of each turn from now on, for a database or a store. Returns where, and
-    /// what counts them.
+    /// Gathers the saves of each turn from now on, for a database or a store. Returns where they
+    /// are gathered, and what counts them.
     ///
     /// # Errors
-    /// AllocError where there is no memory for it.
+    /// `AllocError` if memory runs out.
     pub(crate) fn gather(
         &mut self,
         saves: TurnSaves,
@@ -63,10 +62,10 @@ impl<'a> FolderStore<'a> {
         Ok((turn, self.counts.clone()?))
     }
 
-    /// Returns the names of all that lies in the folder.
+    /// Returns the names of all entries of the folder.
     ///
     /// # Errors
-    /// Why it could not be read.
+    /// The reason why it can't be read.
     pub(crate) fn names(&self) -> io::Result<Vec<String>> {
         let mut names = Vec::new(self.rt.alloc());
         for entry in fs::read_dir(self.rt, self.folder)? {
@@ -76,11 +75,11 @@ impl<'a> FolderStore<'a> {
         Ok(names)
     }
 
-    /// Finds the match of this name, and locks its folder where others may play over it, as one
-    /// that `bg_relay new` has made. Returns None where there is none.
+    /// Finds the match of this name; returns `None` if there is none. Locks its folder if other
+    /// processes may play over it, as over one made by `bg_relay new`.
     ///
     /// # Errors
-    /// Why it could not be read, or locked.
+    /// The reason why the match can't be read, or its folder can't be locked.
     pub(crate) fn find(
         &self,
         name: &str,
@@ -98,11 +97,11 @@ impl<'a> FolderStore<'a> {
         Ok(Some((Box::new(self.rt.alloc(), found)?, lock)))
     }
 
-    /// Returns what the operator may have changed of the match of this name; None where there is
-    /// none any more.
+    /// Returns what the operator may have changed in the match of this name; `None` if it no longer
+    /// exists.
     ///
     /// # Errors
-    /// Why it could not be read.
+    /// The reason why it can't be read.
     pub(crate) fn changed(&self, name: &str) -> io::Result<Option<Changed>> {
         let path = path_in(self.rt.alloc(), self.folder, name)?;
         let Some(file) = self.match_in(path.as_str())? else {
@@ -115,21 +114,22 @@ impl<'a> FolderStore<'a> {
         }))
     }
 
-    /// Takes the names of the matches that the operator has changed.
+    /// Returns the names of the matches that the operator has changed, and notes that they were
+    /// taken in.
     ///
     /// # Errors
-    /// Why they could not be read.
+    /// The reason why they can't be read.
     pub(crate) fn take_changes(&self) -> io::Result<Vec<String>> {
         take_changes(self.rt, self.folder)
     }
 
-    /// Forgets that the operator has changed a match, once that is saved. Where this fails, the
-    /// change is taken once more.
+    /// Forgets that the operator has changed a match, once the change is saved. If this fails, the
+    /// change is taken in again.
     pub(crate) fn forget_change(&self, name: &str) {
         let _ = forget_change(self.rt, self.folder, name);
     }
 
-    /// Returns the match file of a folder; None where it has none that can be read.
+    /// Returns the match file of a folder; `None` if it has none that can be read.
     fn match_in(&self, path: &str) -> io::Result<Option<NamedMatch>> {
         let path = path_in(self.rt.alloc(), path, "match")?;
         match NamedMatch::read(self.rt, path.as_str()) {
@@ -153,7 +153,7 @@ impl<'a> FolderStore<'a> {
         }
         let is_hidden = is_hidden(self.rt, path)?;
         let quiet_minutes = quiet_minutes(self.rt, path)?;
-        // Over the folder of a match that has no seats others may play, who know of no database.
+        // A match without seats may be played by other processes, which know of no database.
         let turn_of = seats.is_some().then_some(name);
         Ok(Found {
             name: String::from_str(self.rt.alloc(), name)?,

@@ -1,5 +1,5 @@
-//! How a server joins those that share the matches of a store. The mark in its folder says of which
-//! store it is a copy; the store has the same digits.
+//! How a server joins the servers that share the matches of a store. The mark in its folder has the
+//! same digits as the store of which the folder is a copy.
 
 use crate::clusters::Cluster;
 use crate::folders::FolderStore;
@@ -10,15 +10,15 @@ use bg_stores::{BESIDE_SLOTS, Copies, Members, SLOTS, Trouble, TurnSaves, hosts_
 use std::alloc::AllocError;
 use std::io;
 
-/// The folder and the file of a store that say which one it is. No match has a name with a dot.
+/// The folder and the file in which a store has its ID. No match has a name with a dot.
 const OWNER: &str = ".owner";
 
 const OWNER_FILE: &str = ".owner/id";
 
-/// What a mark says as long as a store is being filled from the folder.
+/// What the mark says while a store is being filled from the folder.
 const FILLING: &str = "filling";
 
-/// Why a server can't share the matches of a store.
+/// The reason why a server can't share the matches of a store.
 #[derive(Drop)]
 pub(crate) enum Unjoined {
     Trouble(Trouble),
@@ -28,7 +28,7 @@ pub(crate) enum Unjoined {
     OwnMatches,
     /// The folder is a copy of another store.
     OtherStore,
-    /// The folder is a copy of what the store has no more.
+    /// The folder is a copy of a store that has been emptied since.
     Emptied,
 }
 
@@ -50,11 +50,12 @@ impl From<AllocError> for Unjoined {
     }
 }
 
-/// Joins the servers that share the matches of the store that an option names. The first one fills
-/// the store with the matches of its folder; the folder of any other is a copy from then on.
+/// Joins the servers that share the matches of the store that an option names. The first server
+/// fills the store with the matches of its folder. The folder of any other server becomes a copy of
+/// the store.
 ///
 /// # Errors
-/// Why that can't be done.
+/// The reason why the server can't join.
 pub(crate) fn join<'a>(
     rt: &'a HostRuntime,
     folder: &'a str,
@@ -96,8 +97,8 @@ impl<'a> Cluster<'a> {
         }
     }
 
-    /// Fills the store with the matches of the folder. A kill in the midst loses nothing: the next
-    /// start does it again.
+    /// Fills the store with the matches of the folder. If the process is killed meanwhile, nothing
+    /// is lost: the next start fills the store again.
     fn fill(&mut self, words: &str) -> Result<(), Unjoined> {
         let Copies { rt, folder } = self.copies;
         write_mark(rt, folder, words, FILLING)?;
@@ -109,7 +110,7 @@ impl<'a> Cluster<'a> {
         Ok(write_mark(rt, folder, words, owner.as_str())?)
     }
 
-    /// Adds all files of a match to what is to be put.
+    /// Adds all files of a match to the pending changes.
     fn add_all(&mut self, name: &str) -> Result<(), Trouble> {
         let mut changes = Changes::new(self.rt.alloc(), name, 0)?;
         for files in [BESIDE_SLOTS.as_slice(), SLOTS.as_slice()] {
@@ -120,7 +121,7 @@ impl<'a> Cluster<'a> {
         self.add(changes)
     }
 
-    /// Puts into the store which one it is, unless another server has; returns what it has then.
+    /// Gives the store an ID, unless another server has done so; returns the ID that it has then.
     fn put_owner(&mut self, owner: String) -> Result<String, Trouble> {
         let alloc = self.rt.alloc();
         let mut changes = Changes::new(alloc, OWNER, 0)?;
@@ -135,8 +136,8 @@ impl<'a> Cluster<'a> {
         Ok(owner_in(taken.files).unwrap_or(owner))
     }
 
-    /// Removes the matches of the folder of which the store has nothing: they were deleted. One
-    /// that the operator has restored since is put into the store.
+    /// Removes the matches of the folder that the store doesn't have: they were deleted. A match
+    /// that the operator has restored since is put into the store instead.
     fn remove_others(&mut self) -> Result<(), Trouble> {
         for name in self.copies.names()? {
             let name = name.as_str();
@@ -153,7 +154,7 @@ impl<'a> Cluster<'a> {
     }
 }
 
-/// Returns which store it is that has these files first.
+/// Returns the ID of the store, if it is among these files.
 fn owner_in(files: Vec<File>) -> Option<String> {
     for file in files {
         if file.name.as_str() == OWNER_FILE {

@@ -1,5 +1,5 @@
-//! A server of matches for browsers: one thread over sockets on the loopback address, and a folder
-//! for each match. What requests and messages mean is `bg_site`'s.
+//! A server of matches for browsers: one thread, sockets on the loopback address, and a folder for
+//! each match. The crate `bg_site` decides what requests and messages mean.
 //!
 //! ```
 //! let failures = Failures::new();

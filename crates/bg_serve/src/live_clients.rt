@@ -1,4 +1,4 @@
-//! A client that has become a socket: messages in, and what its peer lacks out.
+//! Clients that have become WebSockets: reading their messages, and sending what their peers lack.
 
 use crate::clients::Client;
 use crate::exchanges::{Transfer, transfer_of};
@@ -10,7 +10,7 @@ use bg_site::{Site, Step, Store};
 use bg_world::Keeper;
 
 impl Client {
-    /// Reads messages, and answers them.
+    /// Reads messages and answers them.
     pub(crate) fn hear_channel<K: Keeper + Drop, S: Store<K> + Drop>(
         &mut self,
         site: &mut Site<K, S>,
@@ -38,7 +38,7 @@ impl Client {
         Step::More
     }
 
-    /// Sends what waits, and then what the peer lacks.
+    /// Sends queued output, and then what the peer lacks.
     pub(crate) fn tell_channel<K: Keeper + Drop, S: Store<K> + Drop>(
         &mut self,
         site: &mut Site<K, S>,
@@ -52,7 +52,7 @@ impl Client {
         }
     }
 
-    /// Returns whether anything waits for it as a socket.
+    /// Returns whether output is queued for the WebSocket.
     fn has_output(&self) -> bool {
         match &self.channel {
             Some(channel) => channel.has_output(),
@@ -60,7 +60,7 @@ impl Client {
         }
     }
 
-    /// Sends what waits, and then what the peer of a socket lacks.
+    /// Sends queued output, and then what the peer lacks, if the client is a WebSocket.
     pub(crate) fn send<K: Keeper + Drop, S: Store<K> + Drop>(
         &mut self,
         site: &mut Site<K, S>,
@@ -87,7 +87,7 @@ impl Client {
         Step::More
     }
 
-    /// Returns whether it may stay in this second.
+    /// Returns whether the client may stay connected. If output is queued, tries to send it.
     pub(crate) fn may_stay<K: Keeper + Drop, S: Store<K> + Drop>(
         &mut self,
         site: &mut Site<K, S>,
@@ -99,7 +99,7 @@ impl Client {
                     && self.send(site, now) != Step::Gone)
     }
 
-    /// Returns whether it may have sent nothing up to this second. A silent peer is pinged.
+    /// Returns whether the client is within its time limits for silence. A silent peer is pinged.
     fn may_be_silent(&mut self, now: u64) -> bool {
         let Some(channel) = &mut self.channel else {
             return now.saturating_sub(self.since) <= HEAD_SECONDS;

@@ -1,4 +1,4 @@
-//! How a match is made in a folder of its own.
+//! Making a match in a folder of its own.
 
 use crate::folders::FolderStore;
 use crate::seat_files::{random_digits, write_seats};
@@ -13,17 +13,17 @@ use std::io;
 use std::os::unix::fs::DirBuilderExt;
 use std::random::RandomSource;
 
-/// No match of the server has sockets of its own. A match file wants a port nevertheless.
+/// The port in match files, which must name one. The server's matches have no sockets of their own.
 const PORT: u16 = 1024;
 
-/// A folder that only its owner reads, writes and enters.
+/// The mode of a folder that only its owner can read, write and enter.
 const OWNER_ALONE: u32 = 0o700;
 
 impl<'a> FolderStore<'a> {
-    /// Makes a match, with secrets of its seats.
+    /// Makes a match, with random secrets for its seats.
     ///
     /// # Errors
-    /// Why it could not be made.
+    /// The reason why the match can't be made.
     pub(crate) fn try_make(
         &self,
         terms: Terms,
@@ -34,7 +34,7 @@ impl<'a> FolderStore<'a> {
         Ok(Made { found, x, o })
     }
 
-    /// Makes a match whose seats have these secrets.
+    /// Makes a match whose seats have the secrets `x` and `o`.
     fn make_found(
         &self,
         x: &str,
@@ -58,8 +58,8 @@ impl<'a> FolderStore<'a> {
         self.found(name.as_str(), path.as_str(), file, Some(seats))
     }
 
-    /// Makes the folder of a match, with the secret of its dice, its SHA-256, and the digests of
-    /// its seats.
+    /// Makes the folder of a match, with the secret of its dice, the SHA-256 of that secret, and
+    /// the digests of its seats.
     fn make_folder(&self, path: &str, x: &str, o: &str) -> io::Result<Seats> {
         DirBuilder::new().mode(OWNER_ALONE).create(self.rt, path)?;
         make_secret(self.rt, path)?;
@@ -67,13 +67,13 @@ impl<'a> FolderStore<'a> {
         write_seats(self.rt, path, x, o)
     }
 
-    /// Writes the match file. It comes last, as a folder without one is no match.
+    /// Writes the match file. This comes last, because a folder without one is not a match.
     fn write_match(&self, path: &str, file: &NamedMatch) -> io::Result<()> {
         file.write(self.rt, path)?;
         File::open(self.rt, self.folder)?.sync_all()
     }
 
-    /// Returns a random number for a match.
+    /// Returns a random id for a match.
     fn random_id(&self) -> io::Result<u64> {
         let mut id = [0; 8];
         self.rt.fill_bytes(&mut id)?;

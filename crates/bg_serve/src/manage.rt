@@ -1,4 +1,4 @@
-//! The command by which an operator changes the matches in a folder, also while they are served.
+//! The command with which an operator changes the matches in a folder, even while they are served.
 
 use crate::database_words::settle_first;
 use crate::tables::{Tables, check_of_all};
@@ -11,11 +11,11 @@ use std::fs::TryLockError;
 use std::io;
 use std::io::ErrorKind;
 
-/// What is said where there is nothing to do, or more than one thing.
+/// The message if the options name nothing to do, or more than one thing.
 const NOTHING: &str =
     "give one of --hide, --show, --delete, --forget-names, --new-link, --backup and --restore";
 
-/// Does what an operator wants with a match in a folder, or with all of them.
+/// Does what an operator wants with a match in a folder, or with all matches.
 pub fn run(rt: &HostRuntime, options: ManageOptions<'_>) -> Result<Ending, Ending> {
     let ManageOptions {
         folder,
@@ -39,7 +39,7 @@ pub fn run(rt: &HostRuntime, options: ManageOptions<'_>) -> Result<Ending, Endin
     do_wanted(rt, tables, name, wanted)
 }
 
-/// Does what is wanted with a match, or with all of them.
+/// Does what is wanted with a match, or with all matches.
 fn do_wanted(
     rt: &HostRuntime,
     tables: Tables<'_>,
@@ -58,7 +58,7 @@ fn do_wanted(
     }
 }
 
-/// Locks the folder; returns None where a server runs over it.
+/// Locks the folder; returns `None` if a server runs over it.
 fn lock_unless_served(rt: &HostRuntime, folder: &str) -> Result<Option<FolderLock>, Ending> {
     match FolderLock::take(rt, folder) {
         Ok(lock) => Ok(Some(lock)),
@@ -90,7 +90,7 @@ fn change(
     }
 }
 
-/// Says what came of a change: the link of a seat, if it has a new one.
+/// Prints the result of a change: the link of a seat, if it has a new one.
 fn tell_change(
     rt: &HostRuntime,
     wanted: Management<'_>,
@@ -145,7 +145,7 @@ fn tell_server(rt: &HostRuntime, tables: Tables<'_>, name: &str) -> Result<(), E
     }
 }
 
-/// Copies all matches.
+/// Copies all matches into a new folder.
 fn back_up(rt: &HostRuntime, tables: Tables<'_>, out: &str) -> Result<Ending, Ending> {
     match tables.back_up(out) {
         Ok(count) => {
@@ -181,7 +181,7 @@ fn restore(rt: &HostRuntime, tables: Tables<'_>, from: &str, name: &str) -> Resu
     ))
 }
 
-/// Copies all matches back that are not there any more.
+/// Copies back all matches that no longer exist.
 fn restore_all(rt: &HostRuntime, tables: Tables<'_>, from: &str) -> Result<Ending, Ending> {
     let names = match tables.names_in(from) {
         Ok(names) => names,
@@ -197,7 +197,7 @@ fn restore_all(rt: &HostRuntime, tables: Tables<'_>, from: &str) -> Result<Endin
     Ok(Ending::Served)
 }
 
-/// Copies a match back, and tells the server. Returns false where it is there.
+/// Copies a match back, and tells the server. Returns false if the match still exists.
 fn put_back(rt: &HostRuntime, tables: Tables<'_>, from: &str, name: &str) -> Result<bool, Ending> {
     match tables.put_back(from, name) {
         Ok(true) => {

@@ -1,24 +1,24 @@
-//! What other servers have made of the matches: a watch of the store tells it.
+//! What other servers have changed in the matches, as a watch of the store reports it.
 
 use crate::clusters::Cluster;
 use bg_etcd::{Event, File, put_text, revision_in};
 use bg_stores::{MATCH, Told, Trouble, Watch, parts_of};
 use mio::Registry;
 
-/// Where no watch has told anything for more than so many seconds, something is written that it is
-/// to tell.
+/// If no watch has reported anything for more than this many seconds, a pulse is written that it
+/// should report.
 const MOST_SILENT: u64 = 2;
 
-/// A watch that was silent for more than so many seconds is given up.
+/// A watch that is silent for more than this many seconds is given up.
 const MOST_MUTE: u64 = 5;
 
-/// Where no watch tells anything for more than so many seconds, all that the store has is read.
+/// If no watch has reported anything for more than this many seconds, the whole store is read.
 const MOST_UNTOLD: u64 = 10;
 
-/// The file that is written to see whether a watch tells of it.
+/// The file of the pulse, which is written to see whether a watch reports it.
 const PULSE: &str = ".pulse";
 
-/// What was seen of a match.
+/// What the events of a watch say about a match.
 #[derive(Drop)]
 struct Seen {
     name: String,
@@ -27,11 +27,11 @@ struct Seen {
 }
 
 impl<'a> Cluster<'a> {
-    /// Returns the matches that other servers have changed, made or removed. The folder, and what
-    /// it is behind, have what the store has of these.
+    /// Returns the matches that other servers have changed, made or removed. For these, the folder
+    /// has what the store has, or is about to get it.
     ///
     /// # Errors
-    /// Why the store could not be asked, or the folder not be written.
+    /// The reason why the store can't be asked, or the folder can't be written.
     pub(crate) fn news(&mut self, registry: &Registry, now: u64) -> Result<Vec<String>, Trouble> {
         if now.saturating_sub(self.told.max(self.pulsed)) > MOST_SILENT {
             self.pulsed = now;
@@ -50,7 +50,7 @@ impl<'a> Cluster<'a> {
             Ok(Told::Events(Some(events))) => {
                 self.heard = now;
                 self.told = now;
-                // A member says that a watch has begun also where most others are away.
+                // A member confirms a new watch even if most other members are down.
                 self.members.is_answering |= !events.is_empty();
                 self.take_events(events)
             }
@@ -65,8 +65,7 @@ impl<'a> Cluster<'a> {
         }
     }
 
-    /// Writes something that the watch is to tell: so it is seen whether it does, and whether the
-    /// store is there.
+    /// Writes the pulse, which shows whether the watch reports it, and whether the store answers.
     pub(crate) fn put_pulse(&mut self) -> Result<(), Trouble> {
         let text = put_text(self.rt.alloc(), PULSE, b"")?;
         let (status, body) = self.ask_awhile("/v3/kv/put", text.as_str())?;
@@ -75,7 +74,7 @@ impl<'a> Cluster<'a> {
         self.check_age(revision)
     }
 
-    /// Reads all that the store has, once a second.
+    /// Reads everything in the store, at most once a second.
     fn catch_up_once(&mut self, now: u64) -> Result<Vec<String>, Trouble> {
         if now == self.heard {
             return Ok(Vec::new(self.rt.alloc()));
@@ -86,13 +85,13 @@ impl<'a> Cluster<'a> {
         Ok(names)
     }
 
-    /// Returns whether no watch has told anything for long.
+    /// Returns whether no watch has reported anything for more than `MOST_UNTOLD` seconds.
     pub(crate) fn is_untold(&self, now: u64) -> bool {
         now.saturating_sub(self.told) > MOST_UNTOLD
     }
 
-    /// Begins a watch of what changes from now on. Where that fails, the next second tries another
-    /// member.
+    /// Begins a watch of the changes after the latest known revision. If that fails, another member
+    /// is tried in the next second.
     fn begin_watch(&mut self, registry: &Registry, now: u64) {
         self.heard = now;
         let next = self.watched.saturating_add(1);
@@ -106,15 +105,15 @@ impl<'a> Cluster<'a> {
         }
     }
 
-    /// Gives a watch up. The next one is another member's.
+    /// Gives up the watch. The next one is on another member.
     fn end_watch(&mut self) {
         self.watch = None;
         self.watch_at = self.watch_at.wrapping_add(1);
     }
 
-    /// Takes in changes that a watch has told; returns the matches that they are about.
+    /// Applies the changes that a watch has reported; returns the matches that they are about.
     fn take_events(&mut self, events: Vec<Event>) -> Result<Vec<String>, Trouble> {
-        // Where something fails in the midst, all is read anew.
+        // If anything fails before the end, the whole store is read again.
         self.is_stale = true;
         let mut all: Vec<Seen> = Vec::new(self.rt.alloc());
         for event in events {
@@ -134,8 +133,8 @@ impl<'a> Cluster<'a> {
         Ok(names)
     }
 
-    /// Takes in a change, unless it is known: it may be this server's own, as a removal whose match
-    /// was restored since.
+    /// Applies a change unless it is known. It may be this server's own, such as the removal of a
+    /// match that was restored since.
     fn take_event(&mut self, event: Event, all: &mut Vec<Seen>) -> Result<(), Trouble> {
         let Event {
             name,
@@ -162,7 +161,7 @@ impl<'a> Cluster<'a> {
         }
     }
 
-    /// Notes what was seen of a match.
+    /// Notes what an event says about a match.
     fn note_seen(
         &self,
         folder: &str,

@@ -1,4 +1,4 @@
-//! What a database or a store is told of the folders of matches, beside what the parties save.
+//! Notes for a database or a store about the files of matches, besides the saves of the parties.
 
 use crate::folders::FolderStore;
 use bg_etcd::{File, MOST_BYTES};
@@ -12,7 +12,8 @@ impl<'a> FolderStore<'a> {
     /// Notes that the files of a match are gone.
     ///
     /// # Errors
-    /// Why that could not be noted, as of the other notes.
+    /// `OutOfMemory` if it can't be noted. The other notes also fail with `FileTooLarge` if the
+    /// files don't fit into one transaction, or with the reason why they can't be read.
     pub(crate) fn note_gone(&self, name: &str) -> io::Result<()> {
         match &self.turn {
             Some(turn) => noted(turn.remove(self.rt.alloc(), name)),
@@ -20,8 +21,8 @@ impl<'a> FolderStore<'a> {
         }
     }
 
-    /// Notes that the files of a match are new: a store is to have them, and what a database has of
-    /// them doesn't count.
+    /// Notes that the files of a match are new. A store gets them, and a database discards what it
+    /// has of them.
     pub(crate) fn note_new(&self, name: &str) -> io::Result<()> {
         if self.is_shared() {
             self.share(name, &BESIDE_SLOTS)?;
@@ -30,7 +31,7 @@ impl<'a> FolderStore<'a> {
         self.note_gone(name)
     }
 
-    /// Notes that files of a match beside its slots may have changed: a store is to have them.
+    /// Notes that files of a match other than its slots may have changed. A store gets them.
     pub(crate) fn note_changed(&self, name: &str) -> io::Result<()> {
         if self.is_shared() {
             return self.share(name, &BESIDE_SLOTS);
@@ -38,13 +39,13 @@ impl<'a> FolderStore<'a> {
         Ok(())
     }
 
-    /// Returns whether a store has the matches, which other servers go on with too.
+    /// Returns whether the matches are in a store that several servers share.
     fn is_shared(&self) -> bool {
         self.turn.as_ref().is_some_and(|turn| turn.long.is_some())
     }
 
-    /// Adds files of a match to what the store is to have at the end of the turn, if they fit into
-    /// one transaction. A match without seats stays here, as others may play it.
+    /// Adds files of a match to what the store gets at the end of the turn, if they fit into one
+    /// transaction. A match without seats is not shared, because other processes may play it.
     fn share(&self, name: &str, files: &[&str]) -> io::Result<()> {
         let (rt, folder) = (self.rt, self.folder);
         let Some(turn) = &self.turn else {
@@ -66,7 +67,7 @@ impl<'a> FolderStore<'a> {
     }
 }
 
-/// Returns the number of bytes of files.
+/// Returns the number of bytes in the files.
 fn bytes_of(files: &[File]) -> usize {
     let mut bytes = 0usize;
     for file in files.iter() {
@@ -75,7 +76,7 @@ fn bytes_of(files: &[File]) -> usize {
     bytes
 }
 
-/// Returns the outcome of a note.
+/// Returns the result of a note as an I/O result; every error becomes `OutOfMemory`.
 fn noted(attempt: Result<(), DeviceFault>) -> io::Result<()> {
     match attempt {
         Ok(()) => Ok(()),

@@ -1,4 +1,4 @@
-//! How the folder of a server gets what the store has.
+//! Copying what the store has into the folder of a server.
 
 use crate::clusters::Cluster;
 use bg_console::path_in;
@@ -7,7 +7,8 @@ use bg_journal::{Change, FileText};
 use bg_stores::{SLOTS, Trouble, is_slot, parts_of};
 
 impl<'a> Cluster<'a> {
-    /// Takes in a match as the store has it at a revision: its files, or that it has none.
+    /// Takes in a match as the store has it at a revision. If the store has no files of it, its
+    /// folder is removed.
     pub(crate) fn take_in(
         &mut self,
         folder: &str,
@@ -27,7 +28,8 @@ impl<'a> Cluster<'a> {
         Ok(())
     }
 
-    /// Removes those slots of a match that the store has not: another life of it has left them.
+    /// Removes the slots of a match that the store doesn't have. They are left over from before the
+    /// match was removed and restored.
     fn remove_lacking(&self, folder: &str, files: &[File]) -> Result<(), Trouble> {
         for slot in SLOTS.iter() {
             let name = path_in(self.rt.alloc(), folder, slot)?;
@@ -42,8 +44,8 @@ impl<'a> Cluster<'a> {
         Ok(())
     }
 
-    /// Places a file of the store in the folder: one that a party writes follows later. What the
-    /// operator has changed since stays: it will be put into the store.
+    /// Writes a file of the store into the folder; a file that a party writes follows later. If the
+    /// operator has changed the match since, its file stays, and will be put into the store.
     pub(crate) fn place(&self, file: File) -> Result<(), Trouble> {
         let Some((folder, name)) = parts_of(file.name.as_str()) else {
             return Ok(());
@@ -57,7 +59,7 @@ impl<'a> Cluster<'a> {
         Ok(())
     }
 
-    /// Notes that the file of a slot is behind the store.
+    /// Notes that the file of a slot is older than the store's.
     pub(crate) fn place_slot(&self, file: File) -> Result<(), Trouble> {
         let File { name, text, .. } = file;
         if let Ok(mut behind) = self.saves.behind.try_borrow_mut() {
@@ -67,7 +69,7 @@ impl<'a> Cluster<'a> {
         Ok(())
     }
 
-    /// Forgets whether a match is too long, since there is another state of it, or none.
+    /// Forgets whether a match is too long, because its state has changed or it is gone.
     fn forget_length(&self, folder: &str) {
         if let Some(long) = &self.saves.long {
             long.forget(folder);

@@ -1,4 +1,4 @@
-//! How things are put into a store, and what came of it.
+//! How changes are put into a store, and how its answers are handled.
 
 use crate::clusters::Cluster;
 use bg_etcd::{Changes, File, Taken, removal_text, taken_in, transaction_text};
@@ -6,7 +6,7 @@ use bg_stores::{Trouble, is_slot_name};
 use std::alloc::{AllocError, Global};
 
 impl<'a> Cluster<'a> {
-    /// Puts and removes all that is to be.
+    /// Puts all pending removals and changes into the store.
     pub(crate) fn put_all(&mut self) -> Result<(), Trouble> {
         for _ in 0..u64::MAX {
             if !self.pending.removals.is_empty() {
@@ -20,8 +20,8 @@ impl<'a> Cluster<'a> {
         Ok(())
     }
 
-    /// Removes a match from the store, whatever others have made of it meanwhile. It is compared
-    /// nevertheless, so that a request which comes late removes no match that was restored.
+    /// Removes a match from the store, even if others have changed it meanwhile. Its revision is
+    /// compared nevertheless, so that a late request doesn't remove a match that was restored.
     fn put_removal(&mut self) -> Result<(), Trouble> {
         let alloc = self.rt.alloc();
         let Some(removal) = self.pending.removals.last() else {
@@ -39,7 +39,7 @@ impl<'a> Cluster<'a> {
         Ok(())
     }
 
-    /// Puts what matches have saved, as many as go into one transaction.
+    /// Puts the changes of as many matches as fit into one transaction.
     fn put_some(&mut self) -> Result<(), Trouble> {
         let alloc = self.rt.alloc();
         let count = self.pending.batch();
@@ -58,7 +58,7 @@ impl<'a> Cluster<'a> {
         self.note_refused(taken)
     }
 
-    /// Notes that the last of the removals was made at a revision.
+    /// Notes that the last of the pending removals was made at a revision.
     fn note_removed(&mut self, revision: u64) -> Result<(), Trouble> {
         let Some(removal) = self.pending.removals.last() else {
             return Ok(());
@@ -69,11 +69,11 @@ impl<'a> Cluster<'a> {
         Ok(())
     }
 
-    /// Notes where the store is older than what was read of it, as one that was restored from a
-    /// snapshot is. Nothing can be compared with it then.
+    /// Checks that the store isn't older than what was read from it, as one restored from a
+    /// snapshot is. Nothing can be compared with an older store.
     ///
     /// # Errors
-    /// `Older` where it is.
+    /// `Older` if it is older.
     pub(crate) fn check_age(&mut self, revision: u64) -> Result<(), Trouble> {
         self.is_older = self.is_older || revision < self.watched;
         if self.is_older {
@@ -82,7 +82,8 @@ impl<'a> Cluster<'a> {
         Ok(())
     }
 
-    /// Notes that the first matches were put. Files beside slots have come from the folder.
+    /// Notes that the changes of the first matches were put. Only slots have to be written to the
+    /// folder: the other files came from there.
     fn note_taken(&mut self, count: usize, revision: u64) -> Result<(), Trouble> {
         for _ in 0..count {
             let Some(changes) = self.pending.take_first() else {
@@ -98,8 +99,8 @@ impl<'a> Cluster<'a> {
         Ok(())
     }
 
-    /// Notes that the first match was refused: another server went on with it, unless what it has
-    /// is what was to be put, as where an answer was lost.
+    /// Handles the refusal of the first match's changes. Another server changed the match first,
+    /// unless the store has these very changes, as it does if an answer was lost.
     fn note_refused(&mut self, taken: Taken) -> Result<(), Trouble> {
         let Some(changes) = self.pending.changes.first() else {
             return Ok(());
@@ -120,7 +121,7 @@ impl<'a> Cluster<'a> {
         self.take_in(name.as_str(), files, revision)?;
         self.lost.push(name)?;
         let _ = self.pending.take_first();
-        // No match comes back by what the operator has changed of it.
+        // A change by the operator doesn't bring back a deleted match.
         if is_there && !again.files.is_empty() {
             self.add(again)?;
         }
@@ -128,8 +129,7 @@ impl<'a> Cluster<'a> {
     }
 }
 
-/// Returns what the operator has changed of a match with which another server went on first: it is
-/// put once more.
+/// Returns the operator's changes of a match that another server changed first. They are put again.
 fn changes_again(alloc: Global, lost: &Changes, revision: u64) -> Result<Changes, AllocError> {
     let mut again = Changes::new(alloc, lost.folder.as_str(), revision)?;
     for file in lost.files.iter() {

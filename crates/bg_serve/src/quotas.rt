@@ -1,17 +1,17 @@
-//! Quotas: how often something may be done in a time.
+//! Quotas: how often something may be done in a minute.
 
-/// A number of times that something may be done in a minute: what is not used up is kept, up to a
-/// minute's worth.
+/// How many times something may be done in a minute. What is not used is kept, up to a minute's
+/// worth.
 #[derive(Clone, Copy, Debug, PartialEq, Eq)]
 pub(crate) struct Quota {
     a_minute: u64,
     left: u64,
-    /// The second up to which the quota was filled.
+    /// The second in which the quota was last filled.
     filled: u64,
 }
 
 impl Quota {
-    /// Returns a full quota of so many times a minute.
+    /// Creates a full quota of `a_minute` times a minute.
     pub(crate) fn new(a_minute: u64) -> Quota {
         Quota {
             a_minute,
@@ -20,7 +20,7 @@ impl Quota {
         }
     }
 
-    /// Fills it up to this second, and returns whether anything is left.
+    /// Refills the quota for the time up to `now`, and returns whether anything is left.
     pub(crate) fn has_any(&mut self, now: u64) -> bool {
         let seconds = now.saturating_sub(self.filled).min(60);
         let more = self.a_minute.saturating_mul(seconds) / 60;
@@ -31,7 +31,7 @@ impl Quota {
         self.left > 0
     }
 
-    /// Uses some of it up.
+    /// Uses up `count` of the quota.
     pub(crate) fn take(&mut self, count: u64) {
         self.left = self.left.saturating_sub(count);
     }

@@ -1,29 +1,29 @@
-//! What was counted of saves.
+//! Counts of saves.
 
 use bg_site::Saves;
 use std::cell::Cell;
 use std::time::Instant;
 
-/// What was counted of saves, by all keepers that share it.
+/// Counts of saves, shared by several keepers.
 #[derive(Drop)]
 pub(crate) struct SaveCounts {
     counted: Cell<Saves>,
 }
 
 impl SaveCounts {
-    /// Creates counts with no save counted yet.
+    /// Creates counts of zero.
     pub(crate) fn new() -> SaveCounts {
         SaveCounts {
             counted: Cell::new(Saves::NONE),
         }
     }
 
-    /// Returns what was counted.
+    /// Returns the counts so far.
     pub(crate) fn counted(&self) -> Saves {
         self.counted.get()
     }
 
-    /// Counts that the saves of a turn were made durable together, which took so long, or that this
+    /// Counts a commit, which makes the saves of a turn durable together: its time, and whether it
     /// failed.
     pub(crate) fn note_commit(&self, is_done: bool, micros: u64) {
         let counted = self.counted.get();
@@ -34,7 +34,7 @@ impl SaveCounts {
         });
     }
 
-    /// Counts a save.
+    /// Counts a save and its time.
     pub(crate) fn note(&self, is_done: bool, micros: u64) {
         let counted = self.counted.get();
         self.counted.set(Saves {
@@ -45,8 +45,7 @@ impl SaveCounts {
     }
 }
 
-/// Returns how many microseconds have gone by since then; 0 where the clock can't be read, or could
-/// not be.
+/// Returns the microseconds since `begun`; 0 if the clock can't be read, or couldn't be read then.
 pub(crate) fn micros_since(rt: &HostRuntime, begun: Option<Instant>) -> u64 {
     let Some(begun) = begun else {
         return 0;

@@ -1,4 +1,4 @@
-//! The records that the folders of matches have.
+//! Reading the records of matches from their folders.
 
 use crate::folders::FolderStore;
 use bg_console::path_in;
@@ -20,13 +20,13 @@ impl<'a> FolderStore<'a> {
         Ok(record_in(self.rt.alloc(), &zero, &one, file))
     }
 
-    /// Reads the match file of a folder, if it has one, without the names.
+    /// Reads the match file of a folder without the names; `None` if there is no match file.
     fn table_in(&self, path: &str) -> io::Result<Option<MatchFile>> {
         let path = path_in(self.rt.alloc(), path, "match")?;
         MatchFile::read(self.rt, path.as_str())
     }
 
-    /// Reads a slot of a match.
+    /// Reads a slot of a match, from the gathered saves if its file may be older.
     fn saved_in(&self, name: &str, slot: &str) -> io::Result<Vec<u8>> {
         let file = path_in(self.rt.alloc(), name, slot)?;
         if let Some(turn) = &self.turn {
@@ -39,7 +39,7 @@ impl<'a> FolderStore<'a> {
     }
 }
 
-/// Returns the record that a referee's two slots have, if they have one of this match.
+/// Returns the record in a referee's two slots, if they have one of this match.
 fn record_in(alloc: Global, zero: &[u8], one: &[u8], file: MatchFile) -> Option<Record> {
     let (id, length, rules) = (file.id, file.terms.length, file.terms.rules);
     match restore(alloc, zero, one, REFEREE, id, length, rules) {

@@ -1,4 +1,4 @@
-//! The file of a match that says who may play it: the SHA-256 of the secret of each seat.
+//! The file of a match that says who may play it: the SHA-256 of each seat's secret.
 
 use crate::settling::write_through;
 use bg_board::Player;
@@ -14,10 +14,10 @@ use std::{fs, io};
 /// The name of the file.
 const NAME: &str = "seats";
 
-/// A file that only its owner reads and writes.
+/// The mode of a file that only its owner can read and write.
 const OWNER_ALONE: u32 = 0o600;
 
-/// Returns so many random bytes as hexadecimal digits.
+/// Returns `count` random bytes, at most 16, as hexadecimal digits.
 pub(crate) fn random_digits(rt: &HostRuntime, count: usize) -> io::Result<String> {
     let mut bytes = [0u8; 16];
     rt.fill_bytes(&mut bytes)?;
@@ -26,10 +26,10 @@ pub(crate) fn random_digits(rt: &HostRuntime, count: usize) -> io::Result<String
     Ok(text)
 }
 
-/// Returns the seats of a match, if its folder says who may play it.
+/// Returns the seats of a match; `None` if its folder doesn't say who may play it.
 ///
 /// # Errors
-/// Why the file could not be read; `InvalidData` where it says something else.
+/// The reason why the file can't be read; `InvalidData` if it is malformed.
 pub(crate) fn read_seats(rt: &HostRuntime, folder: &str) -> io::Result<Option<Seats>> {
     let path = path_in(rt.alloc(), folder, NAME)?;
     let text = match fs::read_to_string(rt, path.as_str()) {
@@ -42,7 +42,7 @@ pub(crate) fn read_seats(rt: &HostRuntime, folder: &str) -> io::Result<Option<Se
     }
 }
 
-/// Returns the seats that a text says: two lines, `x DIGEST` and `o DIGEST`.
+/// Parses the text of the file: two lines, `x DIGEST` and `o DIGEST`.
 fn seats_in(text: &str) -> Option<Seats> {
     let (first, rest) = text.split_once('\n')?;
     let second = rest.strip_suffix('\n')?;
@@ -52,7 +52,7 @@ fn seats_in(text: &str) -> Option<Seats> {
     })
 }
 
-/// Returns the digest that 64 hexadecimal digits say.
+/// Parses a digest of 64 hexadecimal digits.
 fn digest_in(text: &str) -> Option<Digest> {
     let mut digest = [0; 32];
     match hex::decode_to_slice(text, &mut digest) {
@@ -61,10 +61,10 @@ fn digest_in(text: &str) -> Option<Digest> {
     }
 }
 
-/// Gives a player's seat another secret. The file is whole at any moment.
+/// Gives a player's seat a new secret. The file is replaced atomically.
 ///
 /// # Errors
-/// Why the file could not be written.
+/// The reason why the file can't be written.
 pub(crate) fn replace_seat(
     rt: &HostRuntime,
     folder: &str,
@@ -93,11 +93,11 @@ fn seats_text(alloc: Global, seats: &Seats) -> Result<String, AllocError> {
     Ok(text)
 }
 
-/// Writes who may play a match into its folder: those who know these secrets. The secrets
-/// themselves are not kept.
+/// Writes the file that says who may play a match: those who know these secrets. The secrets
+/// themselves are not stored.
 ///
 /// # Errors
-/// Why the file could not be written.
+/// The reason why the file can't be written.
 pub(crate) fn write_seats(rt: &HostRuntime, folder: &str, x: &str, o: &str) -> io::Result<Seats> {
     let seats = Seats {
         x: digest_of(x),
@@ -108,7 +108,7 @@ pub(crate) fn write_seats(rt: &HostRuntime, folder: &str, x: &str, o: &str) -> i
     Ok(seats)
 }
 
-/// Writes the file of a folder that has none yet, and has it written through.
+/// Writes the file in a folder that has none yet, and syncs it.
 fn write_new(rt: &HostRuntime, folder: &str, text: &str) -> io::Result<()> {
     let path = path_in(rt.alloc(), folder, NAME)?;
     let mut file = OpenOptions::new()
@@ -126,7 +126,7 @@ fn put_line(text: &mut String, word: &str, digest: &Digest) -> Result<(), AllocE
     text.push('\n')
 }
 
-/// Adds bytes as hexadecimal digits.
+/// Appends bytes as hexadecimal digits.
 fn put_hex(text: &mut String, bytes: &[u8]) -> Result<(), AllocError> {
     for byte in bytes.iter() {
         text.push(hex_digit(byte / 16))?;
@@ -135,7 +135,7 @@ fn put_hex(text: &mut String, bytes: &[u8]) -> Result<(), AllocError> {
     Ok(())
 }
 
-/// Returns the hexadecimal digit of a number under 16.
+/// Returns the hexadecimal digit of a number below 16.
 fn hex_digit(number: u8) -> char {
     char::from_digit(number.into(), 16).unwrap_or('0')
 }

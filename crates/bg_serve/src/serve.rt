@@ -16,7 +16,7 @@ use bg_reports::Ending;
 use std::io;
 use std::io::ErrorKind;
 
-/// The words on what a server needs to begin, and to go on.
+/// Parts of the messages on why a server can't start or continue.
 const FOLDER_AND_PORT: &str =
     "; allow it to read the folder and to listen at the port, and start it again";
 
@@ -24,8 +24,8 @@ const NOT_WAITED: &str = "the sockets can't be waited for";
 
 const MORE_FILES: &str = "; allow it more open files (`ulimit -n`), and start it again";
 
-/// Serves the matches of a folder at a port of this machine until the process is ended. Says each
-/// request, if that is wanted.
+/// Serves the matches of a folder at a port of this machine until the process is ended. Logs each
+/// request if the options say so.
 pub fn run(rt: &HostRuntime, options: ServeOptions<'_>) -> Result<Ending, Ending> {
     check_of_all(rt, options.folder)?;
     let _lock = own_folder(rt, options.folder)?;
@@ -53,8 +53,8 @@ fn run_owned(
     }
 }
 
-/// Lists matches apart once nobody has acted for as long as the options say, and keeps a log of
-/// requests where these are told.
+/// Sets the time without actions after which a match is listed as idle, and keeps a log of requests
+/// if the options say so.
 pub(crate) fn set_up(server: &mut Server<'_>, options: &ServeOptions<'_>) {
     server.site.set_idle(u64::from(options.idle_hours) * 60);
     if options.tells_requests {
@@ -79,7 +79,7 @@ pub(crate) fn not_begun(rt: &HostRuntime, port: u16, database: &str, why: Unusab
     }
 }
 
-/// Binds the port, opens the database, if one is named, and takes in the matches of the folder.
+/// Binds the port, opens the database if one is named, and opens the matches of the folder.
 fn begun<'a>(
     rt: &'a HostRuntime,
     options: &ServeOptions<'a>,
@@ -94,8 +94,9 @@ fn begun<'a>(
     Ok((Server::begin_over(rt, sockets, store)?, database))
 }
 
-/// Lets a server take its turns. What was saved in one is committed before anybody is told of it;
-/// and that the operator has deleted or restored a match, before files are written that are behind.
+/// Runs the turns of a server. The saves of a turn are committed before clients are told of them.
+/// If the operator deletes or restores a match, that is committed before files that are older than
+/// the database are written.
 fn go_on(
     rt: &HostRuntime,
     server: &mut Server<'_>,
@@ -115,7 +116,7 @@ fn go_on(
     Ok(Ending::Served)
 }
 
-/// Lets a server take a turn, with a database. Returns how many matches were made in it.
+/// Runs a turn of a server with a database. Returns how many matches were made.
 fn take_turn(
     rt: &HostRuntime,
     server: &mut Server<'_>,
@@ -130,13 +131,13 @@ fn take_turn(
     Ok(made)
 }
 
-/// Lets a server take a turn, without a database. Returns how many matches were made in it.
+/// Runs a turn of a server without a database. Returns how many matches were made.
 fn take_turn_alone(rt: &HostRuntime, server: &mut Server<'_>) -> Result<u64, Ending> {
     let now = waited(rt, server.hear())?;
     waited(rt, server.tell(now))
 }
 
-/// Ends a turn, in which so many matches were made, and all of which is saved: says what came of it.
+/// Ends a turn whose saves are all durable: logs its results, such as the number of matches made.
 pub(crate) fn tell_turn(
     rt: &HostRuntime,
     server: &mut Server<'_>,
@@ -150,8 +151,8 @@ pub(crate) fn tell_turn(
     say_failures(rt, failures, folder);
 }
 
-/// Commits what was saved in a turn. Tries it again as long as it fails, and says so, also to
-/// whoever comes meanwhile.
+/// Commits the saves of a turn, and retries until that succeeds. Logs failures, and tells clients
+/// that connect meanwhile.
 fn commit(
     rt: &HostRuntime,
     crowd: &mut Crowd<'_>,
@@ -175,7 +176,7 @@ fn commit(
     Ok(())
 }
 
-/// Returns what was waited for; reports why the sockets can't be.
+/// Returns the value of an attempt; reports that the sockets can't be waited for if it failed.
 pub(crate) fn waited<T>(rt: &HostRuntime, attempt: io::Result<T>) -> Result<T, Ending> {
     match attempt {
         Ok(value) => Ok(value),
@@ -183,7 +184,7 @@ pub(crate) fn waited<T>(rt: &HostRuntime, attempt: io::Result<T>) -> Result<T, E
     }
 }
 
-/// Says what is served, and where.
+/// Logs which matches are left out, how many are served, and where.
 pub(crate) fn tell_begin(rt: &HostRuntime, server: &Server<'_>) {
     tell_left_out(rt, server.left_out());
     let count = server.matches();
@@ -196,7 +197,7 @@ pub(crate) fn tell_begin(rt: &HostRuntime, server: &Server<'_>) {
     }
 }
 
-/// Says which matches are left out.
+/// Logs which matches are left out.
 fn tell_left_out(rt: &HostRuntime, names: &[String]) {
     for name in names.iter() {
         say(
@@ -208,8 +209,8 @@ fn tell_left_out(rt: &HostRuntime, names: &[String]) {
     }
 }
 
-/// Says how many matches were made, how many have ended, and how many the operator has changed, as
-/// far as any were.
+/// Logs how many matches were made, how many have ended, and how many the operator has changed, if
+/// any.
 fn tell_counts(rt: &HostRuntime, made: u64, ended: u64, changed: u64) {
     if made > 0 {
         say(rt, format_args!("matches made: {made}"));
@@ -222,14 +223,14 @@ fn tell_counts(rt: &HostRuntime, made: u64, ended: u64, changed: u64) {
     }
 }
 
-/// Says which requests were answered, if a log of them is kept.
+/// Logs the requests that were answered, if a log of them is kept.
 fn tell_requests(rt: &HostRuntime, server: &mut Server<'_>) {
     if let Some(log) = server.take_log() {
         say_lines(rt, log.as_str());
     }
 }
 
-/// Says lines, without what a terminal would take for commands.
+/// Logs lines, without anything that a terminal would take for commands.
 fn say_lines(rt: &HostRuntime, lines: &str) {
     for line in lines.lines() {
         let shown = Printable(line);

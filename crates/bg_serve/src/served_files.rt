@@ -1,4 +1,4 @@
-//! The files of a party of a match that is served.
+//! The files of a party of a served match.
 
 use crate::save_counts::{SaveCounts, micros_since};
 use bg_processes::{Failures, FileKeeper};
@@ -9,8 +9,8 @@ use std::alloc::AllocError;
 use std::rc::Rc;
 use std::time::Instant;
 
-/// The files of a party in the folder of a match, or, where there is a database, the saves of the
-/// turn, which the files follow. Saves are counted and timed.
+/// The files of a party in the folder of a match. If there is a database, saves go to the turn, and
+/// the files are written later. Saves are counted and timed.
 #[derive(Drop)]
 pub(crate) struct ServedFiles<'a> {
     rt: &'a HostRuntime,
@@ -20,11 +20,11 @@ pub(crate) struct ServedFiles<'a> {
 }
 
 impl<'a> ServedFiles<'a> {
-    /// Creates the files of a party in the folder of a match, without opening anything. Notes their
-    /// failures in `failures`.
+    /// Returns the files of a party in the folder of a match, without opening them. Their failures
+    /// are noted in `failures`.
     ///
     /// # Errors
-    /// AllocError where there is no memory for the names of the files.
+    /// `AllocError` if memory runs out.
     pub(crate) fn new(
         rt: &'a HostRuntime,
         folder: &str,
@@ -53,7 +53,7 @@ impl<'a> ServedFiles<'a> {
         result
     }
 
-    /// Reads a slot.
+    /// Reads a slot, from the gathered saves if its file may be older.
     pub(crate) fn read(&mut self, slot: Slot) -> Result<Vec<u8>, DeviceFault> {
         if let Some(turn) = &self.turn {
             if let Some(text) = turn.newest(slot)? {

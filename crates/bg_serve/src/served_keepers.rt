@@ -1,4 +1,4 @@
-//! The keepers of matches that are served.
+//! The keepers of served matches.
 ghost use Rattle.std.specs.Prelude.{None, length};
 ghost use Rattle.bg_protocol.specs.Protocol.Slots.{empty_slots};
 
@@ -7,9 +7,9 @@ use bg_streams::History;
 use bg_wire::Slot;
 use bg_world::{DeviceFault, Keeper, count_failed};
 
-/// The keeper of a party of a match that is served: the files of the party in the folder of the
-/// match. Where there is a database, a save counts once the turn is committed there, and the file
-/// is written behind that. Nothing is claimed of their honesty: others may write to these files.
+/// The keeper of a party of a served match, over the party's files in the folder of the match. If
+/// there is a database, a save counts once the turn is committed there, and the file is written
+/// later. Nothing is claimed about the keeper's honesty, because others may write to these files.
 #[derive(Drop)]
 pub struct ServedKeeper<'a> {
     files: ServedFiles<'a>,
@@ -20,7 +20,7 @@ pub struct ServedKeeper<'a> {
 }
 
 impl<'a> ServedKeeper<'a> {
-    /// Creates the keeper over files.
+    /// Creates a keeper over these files.
     pub(crate) fn over(files: ServedFiles<'a>) -> ServedKeeper<'a> {
         ServedKeeper {
             files,
@@ -33,7 +33,7 @@ impl<'a> ServedKeeper<'a> {
 }
 
 impl<'a> Keeper for ServedKeeper<'a> {
-    // Nothing is claimed of honesty, and so nothing of the contents of the slots either.
+    // Nothing is claimed about honesty, and so nothing about the contents of the slots either.
     ghost is_honest = { ⊥ };
 
     ghost plan = { λ _. None };

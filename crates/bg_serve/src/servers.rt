@@ -11,31 +11,31 @@ use bg_site::{Found, Site};
 use std::io;
 use std::net::SocketAddr;
 
-/// The server of a folder. It is large, so it lies in a box. The check takes seconds for each
-/// function that asks something of the site of these keepers and this store: so what is done with
-/// the site is a function over any site, as far as it needs no more.
+/// The server of a folder. It is large, so it is boxed. Each function that uses the site of these
+/// keepers and this store takes seconds to check. So whatever needs no more than a site is a
+/// function over any site.
 #[derive(Drop)]
 pub struct Server<'a> {
     pub(crate) site: Site<ServedKeeper<'a>, FolderStore<'a>>,
-    /// The names of what looks like a match in the folder, and can't be served.
+    /// The names of entries of the folder that look like matches, but can't be served.
     left_out: Vec<String>,
-    /// The locks of folders that others might play over.
+    /// The locks of folders over which other processes might play.
     locks: Vec<FolderLock>,
     pub(crate) crowd: Crowd<'a>,
     turns: Turns<'a>,
-    /// How many changes of the operator were taken in, and not told yet.
+    /// The number of the operator's changes that were taken in, but not reported yet.
     pub(crate) changed: u64,
-    /// The matches of which changes were taken in that may not be saved yet.
+    /// The matches with changes that were taken in, but may not be saved yet.
     pub(crate) taken: Vec<String>,
-    /// How many matches were told to have ended.
+    /// The number of ended matches that were reported.
     ended: u64,
 }
 
 impl<'a> Server<'a> {
-    /// Binds the port on the loopback address, and takes in the matches of the folder.
+    /// Binds the port on the loopback address, and opens the matches of the folder.
     ///
     /// # Errors
-    /// Why the port could not be bound, or the folder could not be read.
+    /// The reason why the port can't be bound, or the folder can't be read.
     pub fn begin(
         rt: &'a HostRuntime,
         folder: &'a str,
@@ -47,10 +47,10 @@ impl<'a> Server<'a> {
         Server::begin_over(rt, sockets, store)
     }
 
-    /// Takes in the matches of a store, and serves them at these sockets.
+    /// Opens the matches of a store, and serves them at these sockets.
     ///
     /// # Errors
-    /// Why the folder could not be read.
+    /// The reason why the folder can't be read.
     pub(crate) fn begin_over(
         rt: &'a HostRuntime,
         sockets: Sockets,
@@ -62,7 +62,7 @@ impl<'a> Server<'a> {
         Ok(server)
     }
 
-    /// Creates a server without matches and clients.
+    /// Creates a server without matches or clients.
     fn over(
         rt: &'a HostRuntime,
         sockets: Sockets,
@@ -81,11 +81,11 @@ impl<'a> Server<'a> {
         }
     }
 
-    /// Waits until something is to be done, does it, and tells the clients. Returns how many matches
-    /// were made. What was saved is durable before, as where there is no database.
+    /// Waits until there is something to do, does it, and answers the clients. Returns how many
+    /// matches were made. Saves must be durable before that, as they are without a database.
     ///
     /// # Errors
-    /// Why the sockets can't be waited for, or there is no memory.
+    /// The reason why the sockets can't be waited for; `OutOfMemory` if memory runs out.
     pub fn turn(&mut self) -> io::Result<u64> {
         let now = self.hear()?;
         let made = self.tell(now)?;
@@ -93,13 +93,13 @@ impl<'a> Server<'a> {
         Ok(made)
     }
 
-    /// Waits until something is to be done, and does it, but tells nobody. Returns the second.
+    /// Waits until there is something to do, and does it, but sends nothing. Returns the second.
     pub(crate) fn hear(&mut self) -> io::Result<u64> {
         self.turns.hear(&mut self.crowd, &mut self.site)
     }
 
-    /// Tells the clients what came of the turn, once what was saved in it is durable. Returns how
-    /// many matches were made.
+    /// Sends the results of the turn to the clients, once its saves are durable. Returns how many
+    /// matches were made.
     pub(crate) fn tell(&mut self, now: u64) -> io::Result<u64> {
         let is_second = self.turns.begins_second(now);
         if is_second {
@@ -114,8 +114,8 @@ impl<'a> Server<'a> {
         self.site.store()
     }
 
-    /// Takes in the matches of the folder. What is no match is passed over; what can't be served is
-    /// left out.
+    /// Opens the matches of the folder. Skips entries that aren't matches, and leaves out matches
+    /// that can't be served.
     fn open_all(&mut self) -> io::Result<()> {
         for name in self.store().names()? {
             if !is_name(name.as_str()) {
@@ -128,7 +128,7 @@ impl<'a> Server<'a> {
         Ok(())
     }
 
-    /// Takes in the match of a folder, if it has one. Returns false where that can't be served.
+    /// Opens the match of a folder, if it has one. Returns false if it can't be served.
     pub(crate) fn open(&mut self, name: &str) -> io::Result<bool> {
         match self.store().find(name) {
             Ok(Some((found, lock))) => self.open_found(found, lock),
@@ -137,8 +137,8 @@ impl<'a> Server<'a> {
         }
     }
 
-    /// Takes in a match that was found, and keeps the lock of its folder. Returns false where there
-    /// is no room for it.
+    /// Opens a match that was found, and keeps the lock of its folder. Returns false if there is no
+    /// room for it.
     fn open_found(
         &mut self,
         found: Box<Found<ServedKeeper<'a>>>,
@@ -153,26 +153,26 @@ impl<'a> Server<'a> {
         Ok(true)
     }
 
-    /// Lets go of the clients that were heard in this turn, and have answers that may rest on what
-    /// one of these matches has not saved.
+    /// Closes the clients heard in this turn whose answers may depend on what one of these matches
+    /// hasn't saved.
     pub(crate) fn drop_answers(&mut self, names: &[String]) {
         self.crowd.drop_answers(&mut self.site, names);
     }
 
-    /// Returns the lines of requests that were answered since this was asked last, if a log of them
-    /// is kept.
+    /// Returns the log lines of the requests answered since the last call; `None` if no log is
+    /// kept.
     pub(crate) fn take_log(&mut self) -> Option<String> {
         self.site.take_log()
     }
 
-    /// Returns how many changes of the operator were taken in since this was asked last.
+    /// Returns how many of the operator's changes were taken in since the last call.
     pub fn changed(&mut self) -> u64 {
         let changed = self.changed;
         self.changed = 0;
         changed
     }
 
-    /// Returns how many matches have ended since this was asked last.
+    /// Returns how many matches have ended since the last call.
     pub fn ended(&mut self) -> u64 {
         let ended = self.site.ended();
         let fresh = ended.saturating_sub(self.ended);
@@ -180,21 +180,21 @@ impl<'a> Server<'a> {
         fresh
     }
 
-    /// Returns the address that it listens on.
+    /// Returns the address that the server listens on.
     ///
     /// # Errors
-    /// Why the system does not tell.
+    /// The reason why the system doesn't report it.
     pub fn address(&self) -> io::Result<SocketAddr> {
         self.crowd.address()
     }
 
-    /// Returns the number of its matches.
+    /// Returns the number of matches.
     pub fn matches(&self) -> usize {
         self.site.len()
     }
 
-    /// Returns the folders whose matches are not served, as they can't be read, another process
-    /// plays over them, or there are too many.
+    /// Returns the folders whose matches are not served, because they can't be read, another
+    /// process plays over them, or there are too many.
     pub fn left_out(&self) -> &[String] {
         &self.left_out
     }

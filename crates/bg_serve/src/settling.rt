@@ -1,7 +1,7 @@
-//! Whose a database is, and how the files of matches are brought up to date from it.
+//! Who owns a database, and how the files of matches are brought up to date from it.
 //!
-//! While a folder of matches has a database, a file in it, the mark, says which; so nobody who
-//! serves or manages the folder overlooks it.
+//! While a folder of matches has a database, a file in the folder names it: the mark. So nobody who
+//! serves or manages the folder overlooks the database.
 
 use crate::fence::{Fence, Unsaved};
 use crate::seat_files::random_digits;
@@ -17,22 +17,22 @@ use std::{fs, io};
 /// The name of the mark. No match has a name with a dot.
 const MARK: &str = ".database";
 
-/// The name under which a database has what says whose it is.
+/// The name under which a database has its owner.
 const OWNER: &str = ".owner";
 
-/// What the words of an option begin with that name a store.
+/// The prefix of an option that names a store.
 pub(crate) const CLUSTER: &str = "etcd:";
 
-/// The error where the database is another's, or is not there.
+/// The error if the database belongs to another folder, or is missing.
 pub(crate) const NOT_THERE: Error = Error::SqliteFailure(ErrorCode::CannotOpen);
 
-/// A file that only its owner reads and writes.
+/// The mode of a file that only its owner can read and write.
 const OWNER_ALONE: u32 = 0o600;
 
-/// Thirty-two random digits, which a folder and its database have alike.
+/// Thirty-two random digits that a folder and its database share.
 pub(crate) type Owner = String;
 
-/// Why a database can't be used.
+/// The reason why a database can't be used.
 #[derive(Drop)]
 pub(crate) enum Unusable {
     /// It could not be opened, read or written.
@@ -70,17 +70,17 @@ impl From<Unsaved> for Unusable {
     }
 }
 
-/// What a mark says: whose the database is, and where it is.
+/// What a mark says: the owner of the database, and its path.
 #[derive(Drop)]
 pub(crate) struct Mark {
     pub(crate) owner: Owner,
     pub(crate) path: String,
 }
 
-/// Returns what the mark of a folder says, if it has one.
+/// Reads the mark of a folder, if it has one.
 ///
 /// # Errors
-/// Why it could not be read; `InvalidData` where it says something else.
+/// The reason why it can't be read; `InvalidData` if it is malformed.
 pub(crate) fn read_mark(rt: &HostRuntime, folder: &str) -> io::Result<Option<Mark>> {
     let path = path_in(rt.alloc(), folder, MARK)?;
     let text = match fs::read_to_string(rt, path.as_str()) {
@@ -96,7 +96,7 @@ pub(crate) fn read_mark(rt: &HostRuntime, folder: &str) -> io::Result<Option<Mar
     }
 }
 
-/// Opens a database that is there.
+/// Opens an existing database.
 pub(crate) fn open_there(rt: &HostRuntime, path: &str) -> Result<Journal, Error> {
     if fs::metadata(rt, path).is_err() {
         return Err(NOT_THERE);
@@ -104,12 +104,12 @@ pub(crate) fn open_there(rt: &HostRuntime, path: &str) -> Result<Journal, Error>
     Journal::open(rt, path)
 }
 
-/// Brings the files of a folder up to date from the database that its mark names, and lets go of
-/// that. A kill in the midst loses nothing: the next call does it again. One that comes at the end
-/// leaves a database without files, as one at the beginning of [`begin`] does.
+/// Brings the files of a folder up to date from the database that its mark names, and gives that
+/// database up. If the process is killed meanwhile, nothing is lost: the next call does it again. A
+/// kill at the end leaves a database without files, as does one at the beginning of [`begin`].
 ///
 /// # Errors
-/// Why it can't be done. Then the folder still has its database.
+/// The reason why it can't be done. The folder then still has its database.
 pub(crate) fn settle(rt: &HostRuntime, folder: &str, mark: &Mark) -> Result<(), Unusable> {
     let mut journal = open_there(rt, mark.path.as_str())?;
     let files = journal.files()?;
@@ -128,7 +128,7 @@ pub(crate) fn settle(rt: &HostRuntime, folder: &str, mark: &Mark) -> Result<(), 
     Ok(())
 }
 
-/// Brings a file up to date. What lies in a folder that isn't there any more is passed over.
+/// Brings a file up to date. Skips files in folders that no longer exist.
 fn settle_file(rt: &HostRuntime, folder: &str, file: &FileText) -> io::Result<()> {
     let Some((name, _)) = file.name.as_str().split_once('/') else {
         return Ok(());
@@ -146,7 +146,7 @@ fn settle_file(rt: &HostRuntime, folder: &str, file: &FileText) -> io::Result<()
     File::open(rt, above.as_str())?.sync_all()
 }
 
-/// Writes a file that only its owner reads and writes, and makes it durable.
+/// Writes a file that only its owner can read and write, and makes it durable.
 pub(crate) fn write_through(rt: &HostRuntime, path: &str, bytes: &[u8]) -> io::Result<()> {
     let mut file = OpenOptions::new()
         .write(true)
@@ -158,11 +158,11 @@ pub(crate) fn write_through(rt: &HostRuntime, path: &str, bytes: &[u8]) -> io::R
     file.sync_all()
 }
 
-/// Gives a folder a database, which is made where there is none, and notes that in the folder.
-/// Returns what each turn that is written to it must follow.
+/// Gives a folder a database, which is created if it is missing, and notes that in the folder.
+/// Returns the fence that each turn written to the database must pass.
 ///
 /// # Errors
-/// `Anothers` where it has anything already; or why it could not be opened or written.
+/// `Anothers` if it already has files; otherwise the reason why it can't be opened or written.
 pub(crate) fn begin(rt: &HostRuntime, folder: &str, path: &str) -> Result<Fence, Unusable> {
     let mut journal = Journal::open(rt, path)?;
     if !journal.files()?.is_empty() {
@@ -176,7 +176,7 @@ pub(crate) fn begin(rt: &HostRuntime, folder: &str, path: &str) -> Result<Fence,
     Ok(fence)
 }
 
-/// Returns the changes by which a database says whose it is, and that it has no turn yet.
+/// Returns the changes that give a database its owner, and say that it has no turn yet.
 fn first_changes(alloc: Global, fence: &Fence) -> Result<[Change; 2], AllocError> {
     let text = fence.owner().as_bytes().to_vec(alloc)?;
     let name = String::from_str(alloc, OWNER)?;
@@ -186,14 +186,15 @@ fn first_changes(alloc: Global, fence: &Fence) -> Result<[Change; 2], AllocError
     ])
 }
 
-/// Has a database, and its log, read by their owner alone, as saved files are.
+/// Lets only the owner read a database and its log, as with saved files.
 fn close_to_others(rt: &HostRuntime, path: &str) -> io::Result<()> {
     fs::set_permissions(rt, path, Permissions::from_mode(OWNER_ALONE))?;
     let log = format!(in rt.alloc(); "{path}-wal")?;
     fs::set_permissions(rt, log.as_str(), Permissions::from_mode(OWNER_ALONE))
 }
 
-/// Writes the mark of a folder: whose the database is, and where. It is whole at any moment.
+/// Writes the mark of a folder: the owner of the database, and its path. The file is replaced
+/// atomically.
 pub(crate) fn write_mark(
     rt: &HostRuntime,
     folder: &str,

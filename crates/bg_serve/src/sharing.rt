@@ -14,7 +14,7 @@ use bg_processes::Failures;
 use bg_reports::Ending;
 use bg_stores::Trouble;
 
-/// A store, and what was said of it.
+/// A store, and what was logged about it.
 #[derive(Drop)]
 struct Shared<'a> {
     rt: &'a HostRuntime,
@@ -25,7 +25,7 @@ struct Shared<'a> {
     is_untold: bool,
 }
 
-/// Serves the matches of a store, of which the folder is a copy, until the process is ended.
+/// Serves the matches of a store until the process is ended. The folder is a copy of the store.
 pub(crate) fn run_shared<'a>(
     rt: &'a HostRuntime,
     options: &ServeOptions<'a>,
@@ -55,7 +55,8 @@ pub(crate) fn run_shared<'a>(
     }
 }
 
-/// Joins the servers that share the matches of a store. Returns it, and the server at these sockets.
+/// Joins the servers that share the matches of a store. Returns the store, and the server at these
+/// sockets.
 fn joined<'a>(
     rt: &'a HostRuntime,
     folder: &'a str,
@@ -68,7 +69,7 @@ fn joined<'a>(
     Ok((cluster, Server::begin_over(rt, sockets, store)?))
 }
 
-/// Puts what the operator has changed while no server looked, before anybody is served.
+/// Commits what the operator changed while no server was running, before any client is served.
 fn begin(shared: &mut Shared<'_>, server: &mut Server<'_>) -> Result<(), Ending> {
     server.take_changes();
     shared.commit(server)?;
@@ -77,7 +78,7 @@ fn begin(shared: &mut Shared<'_>, server: &mut Server<'_>) -> Result<(), Ending>
     Ok(())
 }
 
-/// Lets a server take its turns.
+/// Runs the turns of a server.
 fn go_on(
     shared: &mut Shared<'_>,
     server: &mut Server<'_>,
@@ -92,8 +93,8 @@ fn go_on(
     Ok(Ending::Served)
 }
 
-/// Lets a server take a turn. What was saved in it is in the store before anybody is told of it, and
-/// so is what was changed while they were told. Returns how many matches were made.
+/// Runs a turn of a server. Its saves are in the store before clients are told of them. What
+/// changes while clients are told is put there too. Returns how many matches were made.
 fn take_turn(shared: &mut Shared<'_>, server: &mut Server<'_>) -> Result<u64, Ending> {
     let now = waited(shared.rt, server.hear())?;
     shared.commit(server)?;
@@ -105,9 +106,9 @@ fn take_turn(shared: &mut Shared<'_>, server: &mut Server<'_>) -> Result<u64, En
 }
 
 impl<'a> Shared<'a> {
-    /// Puts into the store what was saved, as long as there is anything. A match with which another
-    /// server went on first goes on from what that has saved, and the clients who have an answer
-    /// that may rest on anything else are let go of: they come again, and send again.
+    /// Puts all saves into the store. If another server changed a match first, the match continues
+    /// from what that server saved. Clients with answers that may depend on anything else are
+    /// closed: they reconnect, and send again.
     fn commit(&mut self, server: &mut Server<'_>) -> Result<(), Ending> {
         for _ in 0..u64::MAX {
             let lost = self.committed(&mut server.crowd)?;
@@ -121,8 +122,8 @@ impl<'a> Shared<'a> {
         Ok(())
     }
 
-    /// Puts into the store what was saved, and tries it again as long as that fails; whoever comes
-    /// meanwhile is told so. Returns the matches with which another server went on first.
+    /// Puts the saves into the store, and retries until that succeeds. Clients that connect
+    /// meanwhile are told so. Returns the matches that another server changed first.
     fn committed(&mut self, crowd: &mut Crowd<'_>) -> Result<Vec<String>, Ending> {
         let mut has_failed = false;
         for _ in 0..u64::MAX {
@@ -139,7 +140,8 @@ impl<'a> Shared<'a> {
         Ok(Vec::new(self.rt.alloc()))
     }
 
-    /// Puts into the store what was saved, if that can be done now; else it says why, and pauses.
+    /// Tries once to put the saves into the store. Logs why that fails, and pauses; returns `None`
+    /// if the saves aren't put yet.
     fn try_commit(&mut self) -> Result<Option<Vec<String>>, Ending> {
         match self.cluster.commit() {
             Ok(lost) => return Ok(Some(lost)),
@@ -152,7 +154,7 @@ impl<'a> Shared<'a> {
         Ok(None)
     }
 
-    /// Takes in what other servers have made of the matches.
+    /// Applies what other servers have changed in the matches.
     fn take_news(&mut self, server: &mut Server<'_>, now: u64) -> Result<(), Ending> {
         self.tell_watch(now);
         match self.cluster.news(server.crowd.sockets.poll.registry(), now) {
@@ -168,7 +170,7 @@ impl<'a> Shared<'a> {
         }
     }
 
-    /// Says whether watches tell what other servers do, where that has changed.
+    /// Logs whether watches report what other servers do, if that has changed.
     fn tell_watch(&mut self, now: u64) {
         let is_untold = !self.is_away && self.cluster.is_untold(now);
         if is_untold != self.is_untold {
@@ -177,7 +179,7 @@ impl<'a> Shared<'a> {
         }
     }
 
-    /// Says why the store can't be used, unless that was said already.
+    /// Logs why the store can't be used, unless that was logged already.
     fn tell_trouble(&mut self, trouble: &Trouble) {
         if !self.is_away {
             self.is_away = true;
@@ -185,7 +187,7 @@ impl<'a> Shared<'a> {
         }
     }
 
-    /// Says that the store can be used again, where it could not.
+    /// Logs that the store can be used again, if it could not.
     fn tell_well(&mut self) {
         if self.is_away && self.cluster.is_well() {
             self.is_away = false;
@@ -193,7 +195,7 @@ impl<'a> Shared<'a> {
         }
     }
 
-    /// Says which matches come near the most that the store takes, or can't go on.
+    /// Logs which matches come near the limit of the store, or can't go on.
     fn tell_long(&self) {
         let Some(long) = &self.cluster.saves.long else {
             return;

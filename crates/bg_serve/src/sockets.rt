@@ -1,4 +1,4 @@
-//! What a server waits for.
+//! The sockets that a server waits for.
 
 use mio::net::{TcpListener, TcpStream};
 use mio::{Events, Interest, Poll, Token};
@@ -6,10 +6,10 @@ use std::io;
 use std::net::{Ipv4Addr, SocketAddr};
 use std::time::Duration;
 
-/// The token of the listener; that of a client is one more than its index.
+/// The token of the listener. The token of a client is its index plus one.
 pub(crate) const LISTENER: Token = Token(0);
 
-/// What a server waits for: its listener, and what happened at its sockets.
+/// The listener of a server, and the poll and events of all its sockets.
 #[derive(Drop)]
 pub(crate) struct Sockets {
     pub(crate) poll: Poll,
@@ -21,7 +21,7 @@ impl Sockets {
     /// Binds a port on the loopback address.
     ///
     /// # Errors
-    /// Why it could not be bound.
+    /// The reason why the port can't be bound.
     pub(crate) fn bind(rt: &HostRuntime, port: u16) -> io::Result<Sockets> {
         let events = Events::with_capacity(rt.alloc(), 256)?;
         let mut listener = TcpListener::bind(rt, SocketAddr::from((Ipv4Addr::LOCALHOST, port)))?;
@@ -35,10 +35,10 @@ impl Sockets {
         })
     }
 
-    /// Waits until one of them is ready, at most so many milliseconds.
+    /// Waits until a socket is ready, or `most` milliseconds have passed.
     ///
     /// # Errors
-    /// Why they can't be waited for.
+    /// The reason why the sockets can't be waited for.
     pub(crate) fn wait(&mut self, most: u64) -> io::Result<()> {
         let most = Duration::from_millis(most);
         match self.poll.poll(&mut self.events, Some(most)) {
@@ -57,17 +57,17 @@ impl Sockets {
         false
     }
 
-    /// Waits for a stream too.
+    /// Adds a stream to the sockets that are waited for.
     ///
     /// # Errors
-    /// Why it can't be waited for.
+    /// The reason why the stream can't be added.
     pub(crate) fn register(&self, stream: &mut TcpStream, token: Token) -> io::Result<()> {
         self.poll
             .registry()
             .register(stream, token, Interest::READABLE | Interest::WRITABLE)
     }
 
-    /// Waits for a stream no longer.
+    /// Removes a stream from the sockets that are waited for.
     pub(crate) fn deregister(&self, stream: &mut TcpStream) {
         let _ = self.poll.registry().deregister(stream);
     }

@@ -1,4 +1,4 @@
-//! What an operator does with the matches in a folder, whether a server runs over it or not.
+//! What an operator does with the matches in a folder, whether or not a server runs over it.
 
 use crate::seat_files::{random_digits, read_seats, replace_seat};
 use bg_board::Player;
@@ -12,13 +12,13 @@ use std::io::ErrorKind;
 use std::os::unix::fs::DirBuilderExt;
 use std::{fs, io};
 
-/// The files of which the folder of one match has at least one.
+/// The files of which the folder of a match has at least one.
 const OF_A_MATCH: [&str; 3] = ["match", "party-0.0", "party-0.1"];
 
-/// A folder for its owner alone.
+/// The mode of a folder that only its owner can use.
 const OWNER_ALONE: u32 = 0o700;
 
-/// Refuses the folder of one match, where that of all matches is asked for. Ends with
+/// Refuses the folder of one match, since the folder of all matches is expected. Ends with
 /// `WrongArguments`.
 pub(crate) fn check_of_all(rt: &HostRuntime, folder: &str) -> Result<(), Ending> {
     for name in OF_A_MATCH {
@@ -44,7 +44,7 @@ pub(crate) struct Tables<'a> {
 }
 
 impl<'a> Tables<'a> {
-    /// Returns the path of the folder of a match; None where there is no match of this name.
+    /// Returns the path of the folder of a match; `None` if there is no match of this name.
     pub(crate) fn path_of(&self, name: &str) -> io::Result<Option<String>> {
         if !is_name(name) {
             return Ok(None);
@@ -57,8 +57,8 @@ impl<'a> Tables<'a> {
         })
     }
 
-    /// Tells the server that a match was changed, if one runs. Returns false where it has not taken
-    /// that in.
+    /// Tells the server that a match was changed, if one runs. Returns false if the server hasn't
+    /// saved the change in time.
     pub(crate) fn tell(&self, name: &str) -> io::Result<bool> {
         if self.is_served {
             tell_change(self.rt, self.folder, name)
@@ -67,7 +67,7 @@ impl<'a> Tables<'a> {
         }
     }
 
-    /// Has lists leave a match out, or show it again.
+    /// Hides a match from lists, or shows it again.
     pub(crate) fn set_hidden(&self, path: &str, is_hidden: bool) -> io::Result<()> {
         if is_hidden {
             hide(self.rt, path)
@@ -76,7 +76,7 @@ impl<'a> Tables<'a> {
         }
     }
 
-    /// Takes the names of the players out of a match.
+    /// Removes the names of the players from a match.
     pub(crate) fn forget_names(&self, path: &str) -> io::Result<()> {
         let file = path_in(self.rt.alloc(), path, "match")?;
         match NamedMatch::read(self.rt, file.as_str())? {
@@ -88,8 +88,8 @@ impl<'a> Tables<'a> {
         }
     }
 
-    /// Gives a player's seat another secret, and returns it. Returns None where nobody may play the
-    /// match here.
+    /// Gives a player's seat a new secret, and returns it; `None` if nobody may play the match
+    /// here.
     pub(crate) fn renew(&self, path: &str, player: Player) -> io::Result<Option<String>> {
         let Some(seats) = read_seats(self.rt, path)? else {
             return Ok(None);
@@ -99,16 +99,15 @@ impl<'a> Tables<'a> {
         Ok(Some(secret))
     }
 
-    /// Deletes a match. First it is given a name that no match has, so that nothing is left of it
-    /// where a kill comes.
+    /// Deletes a match. Its folder first gets a name that no match has, so that no partial match
+    /// remains if the process is killed.
     pub(crate) fn delete(&self, path: &str) -> io::Result<()> {
         let gone = format!(in self.rt.alloc(); "{path}.deleted")?;
         fs::rename(self.rt, path, gone.as_str())?;
         fs::remove_dir_all(self.rt, gone.as_str())
     }
 
-    /// Copies all matches into a new folder, has that written through, and returns how many there
-    /// are.
+    /// Copies all matches durably into a new folder, and returns how many there are.
     pub(crate) fn back_up(&self, out: &str) -> io::Result<u64> {
         DirBuilder::new().mode(OWNER_ALONE).create(self.rt, out)?;
         let mut count = 0u64;
@@ -128,15 +127,15 @@ impl<'a> Tables<'a> {
         Ok(is_name(name) && has_match(self.rt, path.as_str())?)
     }
 
-    /// Copies a match back that is not there any more, and has that written through. Returns false,
-    /// and copies nothing, where it is there still.
+    /// Copies a match back durably if it no longer exists. Returns false, and copies nothing, if it
+    /// still exists.
     pub(crate) fn put_back(&self, from: &str, name: &str) -> io::Result<bool> {
         let to = path_in(self.rt.alloc(), self.folder, name)?;
         if fs::symlink_metadata(self.rt, to.as_str()).is_ok() {
             return Ok(false);
         }
         let beside = format!(in self.rt.alloc(); "{}.restored", to.as_str())?;
-        // What a kill has left of an earlier copy is removed first.
+        // An earlier copy that was interrupted by a kill is removed first.
         let _ = fs::remove_dir_all(self.rt, beside.as_str());
         let from = path_in(self.rt.alloc(), from, name)?;
         if let Err(error) = copy_match(self.rt, from.as_str(), beside.as_str()) {

@@ -1,4 +1,4 @@
-//! The turns of a server: it hears its clients, and, once what was saved is durable, tells them.
+//! The turns of a server: it hears its clients, and sends the results once the saves are durable.
 
 use crate::crowds::Crowd;
 use crate::limits::MOST_MADE;
@@ -8,24 +8,25 @@ use bg_world::Keeper;
 use std::io;
 use std::time::{Duration, Instant};
 
-/// How far a server has come with its turns.
+/// The progress of a server through its turns.
 #[derive(Drop)]
 pub(crate) struct Turns<'a> {
     rt: &'a HostRuntime,
     start: Instant,
-    /// The second in which all were looked at last, and the tenth in which matches ticked last.
+    /// The second in which all clients were last checked, and the tenth of a second in which
+    /// matches last ticked.
     looked: u64,
     ticked: u64,
     quota: Quota,
-    /// How many matches were made until the last turn.
+    /// The number of matches made up to the last turn.
     made: u64,
 }
 
 impl<'a> Turns<'a> {
-    /// Returns the turns of a server that begins now.
+    /// Creates the turns of a server that starts now.
     ///
     /// # Errors
-    /// Why the clock could not be read.
+    /// The reason why the clock can't be read.
     pub(crate) fn begin(rt: &'a HostRuntime) -> io::Result<Turns<'a>> {
         Ok(Turns {
             rt,
@@ -37,10 +38,12 @@ impl<'a> Turns<'a> {
         })
     }
 
-    /// Waits until something is to be done, and does it, but tells nobody. Returns the second.
+    /// Waits until there is something to do, and does it, but sends nothing yet. Returns the
+    /// current second, counted from the start.
     ///
     /// # Errors
-    /// Why the sockets can't be waited for, or there is no memory.
+    /// The reason why the sockets can't be waited for or the clock can't be read; `OutOfMemory` if
+    /// memory runs out.
     pub(crate) fn hear<K: Keeper + Drop, S: Store<K> + Drop>(
         &mut self,
         crowd: &mut Crowd<'_>,
@@ -57,19 +60,18 @@ impl<'a> Turns<'a> {
         Ok(now)
     }
 
-    /// Returns whether this is a second in which nothing was looked at yet, and notes that it is
-    /// now.
+    /// Returns whether a new second has begun since the last call, and notes the current one.
     pub(crate) fn begins_second(&mut self, now: u64) -> bool {
         let begins = now != self.looked;
         self.looked = now;
         begins
     }
 
-    /// Tells the clients what came of the turn, once what was saved in it is durable; first it looks
-    /// at all of them, where a second has begun. Returns how many matches were made.
+    /// Sends the clients the results of the turn, once its saves are durable. If a second has
+    /// begun, checks all clients first. Returns the number of matches made.
     ///
     /// # Errors
-    /// `OutOfMemory` alone.
+    /// Only `OutOfMemory`, if memory runs out.
     pub(crate) fn tell<K: Keeper + Drop, S: Store<K> + Drop>(
         &mut self,
         crowd: &mut Crowd<'_>,
@@ -87,7 +89,7 @@ impl<'a> Turns<'a> {
         Ok(self.note_made(site.made()))
     }
 
-    /// Notes how many matches were made since the server began; returns how many of them are new.
+    /// Notes the number of matches made since the server started. Returns how many of them are new.
     fn note_made(&mut self, made: u64) -> u64 {
         let fresh = made.saturating_sub(self.made);
         self.made = made;
@@ -95,7 +97,7 @@ impl<'a> Turns<'a> {
         fresh
     }
 
-    /// Lets matches tick that have something left to do, ten times a second.
+    /// Ticks the matches that have something left to do, at most ten times a second.
     fn tick<K: Keeper + Drop, S: Store<K> + Drop>(&mut self, site: &mut Site<K, S>, tenth: u64) {
         if site.is_restless() && tenth != self.ticked {
             self.ticked = tenth;
@@ -104,7 +106,7 @@ impl<'a> Turns<'a> {
     }
 }
 
-/// Returns the tenths of a second in a time.
+/// Returns a duration in tenths of a second.
 fn tenths_of(time: Duration) -> u64 {
     time.as_secs()
         .saturating_mul(10)

@@ -1,11 +1,11 @@
-//! Changes of matches that the operator or another server has made.
+//! Changes that the operator or another server has made to matches.
 
 use crate::servers::Server;
 use bg_requests::is_name;
 use std::io;
 
 impl<'a> Server<'a> {
-    /// Takes in what the operator has changed, as far as it can be read.
+    /// Applies the operator's changes, as far as they can be read.
     pub(crate) fn take_changes(&mut self) {
         let Ok(names) = self.store().take_changes() else {
             return;
@@ -17,7 +17,7 @@ impl<'a> Server<'a> {
         self.taken = names;
     }
 
-    /// Forgets what the operator has changed, since what was taken in of it is saved.
+    /// Forgets the operator's changes that were applied, because they are saved now.
     pub(crate) fn forget_changes(&mut self) {
         for name in self.taken.iter() {
             self.store().forget_change(name.as_str());
@@ -25,8 +25,8 @@ impl<'a> Server<'a> {
         self.taken.clear();
     }
 
-    /// Takes in what the operator has changed of a match: it may be new, or gone. What a database
-    /// has of such a match doesn't count.
+    /// Applies the operator's changes to a match. If the match is new or gone, what a database has
+    /// of it is discarded.
     fn take_change(&mut self, name: &str) -> io::Result<()> {
         match self.store().changed(name) {
             Ok(Some(changed)) => {
@@ -47,15 +47,15 @@ impl<'a> Server<'a> {
         }
     }
 
-    /// Takes in what other servers have made of these matches.
+    /// Reloads these matches, which other servers have changed.
     pub(crate) fn renew_all(&mut self, names: &[String]) {
         for name in names.iter() {
             self.renew(name.as_str());
         }
     }
 
-    /// Takes in what another server has made of a match, which the folder and the turn have. What
-    /// can't be read isn't served any more, since nobody knows which of it is saved.
+    /// Reloads a match that another server has changed, from the folder and the turn. If it can't
+    /// be read, it is no longer served, because nobody knows which part of it is saved.
     fn renew(&mut self, name: &str) {
         let is_there = match self.store().find(name) {
             Ok(Some((found, None))) => self.site.replace(Box::into_inner(found)),

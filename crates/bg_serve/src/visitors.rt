@@ -1,4 +1,4 @@
-//! Whoever comes while a server waits to save: it is told so, and let go of.
+//! Clients that connect while the server can't save. They are told so, and disconnected.
 
 use crate::clients::config;
 use crate::crowds::Crowd;
@@ -12,16 +12,16 @@ use std::alloc::AllocError;
 use std::hash::RandomState;
 use std::io;
 
-/// At most so many visitors are there at once. Others wait to be accepted.
+/// The most visitors at once. Others wait to be accepted.
 const MOST_VISITORS: usize = 64;
 
-/// A visitor is let go of after so many looks.
+/// The number of looks after which a visitor is closed.
 const MOST_LOOKS: u32 = 20;
 
-/// What whoever comes is told.
+/// The body of the response to a visitor.
 const NOT_NOW: &str = "nothing can be saved at the moment: try again later\n";
 
-/// Answers each request that nothing can be done now.
+/// A service that answers every request with [`NOT_NOW`] and status 503.
 #[derive(Drop)]
 struct NotNow {}
 
@@ -38,17 +38,17 @@ impl Service for NotNow {
     }
 }
 
-/// A connection that has come while the server waits.
+/// A connection that was accepted while the server waits to save.
 #[derive(Drop)]
 pub(crate) struct Visitor {
     stream: TcpStream,
     connection: Box<Connection>,
-    /// How often it was looked at; `MOST_LOOKS` once it is to go.
+    /// The number of looks so far; `MOST_LOOKS` once the visitor is to be closed.
     looks: u32,
 }
 
 impl Visitor {
-    /// Reads requests, and answers them.
+    /// Reads requests and answers them. Notes when the visitor is to be closed.
     fn look(&mut self) {
         self.looks = self.looks.saturating_add(1);
         let is_there = read_http(&mut self.connection, &mut self.stream).is_some();
@@ -62,7 +62,7 @@ impl Visitor {
 }
 
 impl<'a> Crowd<'a> {
-    /// Tells whoever comes that nothing can be saved now. It is called again and again, as long as
+    /// Tells clients that connect that nothing can be saved now. This is called repeatedly while
     /// that is so.
     pub(crate) fn turn_away(&mut self) {
         for _ in 0..MOST_VISITORS {
@@ -80,7 +80,7 @@ impl<'a> Crowd<'a> {
         self.visitors.retain(|visitor| visitor.looks < MOST_LOOKS);
     }
 
-    /// Notes that somebody has come.
+    /// Adds a visitor.
     fn visit(&mut self, stream: TcpStream) -> io::Result<()> {
         let (alloc, keys) = (self.rt.alloc(), RandomState::new(self.rt)?);
         self.visitors.push(Visitor {
@@ -91,7 +91,7 @@ impl<'a> Crowd<'a> {
         Ok(())
     }
 
-    /// Lets go of whoever has come meanwhile: they come again. Connections may wait to be accepted.
+    /// Closes all visitors, which will connect again, and resumes accepting connections.
     pub(crate) fn welcome(&mut self) {
         self.visitors.clear();
         self.is_accepting = true;

@@ -1,4 +1,4 @@
-//! The words on what came of an action.
+//! The words for the outcome of an action.
 
 use crate::sites::Site;
 use crate::stores::Store;
@@ -16,8 +16,8 @@ use std::alloc::{AllocError, Global};
 const TOO_LONG: &str = ",\"no\":\"too long to be saved here\"";
 
 impl<K: Keeper + Drop, S: Store<K> + Drop> Site<K, S> {
-    /// Appends what came of an action of a player in the match at a place. Where the rules refuse
-    /// it, the reason follows.
+    /// Appends the outcome of a player's action in the match at an index. If the rules refuse the
+    /// action, the reason follows.
     pub(crate) fn put_acted(
         &self,
         out: &mut Vec<u8>,
@@ -38,7 +38,7 @@ impl<K: Keeper + Drop, S: Store<K> + Drop> Site<K, S> {
         }
     }
 
-    /// Returns whether nothing more is saved of the match at a place.
+    /// Returns whether the match at an index is too long for more of it to be saved.
     fn is_full_at(&self, index: usize) -> bool {
         match self.places.get(index) {
             Some(place) => self.store.is_full(place.name.as_str()),
@@ -46,7 +46,7 @@ impl<K: Keeper + Drop, S: Store<K> + Drop> Site<K, S> {
         }
     }
 
-    /// Returns the record of the match at a place, while it goes on.
+    /// Returns the record of the match at an index, while the match is in progress.
     fn held_at(&self, index: usize) -> Option<&Record> {
         match self.places.get(index) {
             Some(place) => place.held(),
@@ -55,7 +55,7 @@ impl<K: Keeper + Drop, S: Store<K> + Drop> Site<K, S> {
     }
 }
 
-/// Appends why an action can't follow a record, in the words that a player at a terminal is told.
+/// Appends the reason why an action can't follow a record, in the words for a player at a terminal.
 fn put_reason(
     alloc: Global,
     out: &mut Vec<u8>,
@@ -70,7 +70,7 @@ fn put_reason(
     put_quoted(out, str::from_utf8(line).unwrap_or_default())
 }
 
-/// Returns the answer to an action.
+/// Returns the words for the outcome of an action.
 fn acted_words(acted: Acted) -> &'static str {
     match acted {
         Acted::Done => ",\"done\":true",

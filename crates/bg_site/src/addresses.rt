@@ -1,25 +1,27 @@
-//! Limits on the clients of one address.
+//! Limits for the clients of one address.
 
 use bytes::Bytes;
 use http::Request;
 use std::alloc::{AllocError, Global};
 use std::net::{IpAddr, Ipv6Addr};
 
-/// The most sockets of an address at once.
+/// The most WebSockets that an address can have at once.
 pub const MOST_OF_ADDRESS: u32 = 64;
 
-/// The most connections of an address at once, those that have become sockets among them.
+/// The most connections that an address can have at once, including those that have become
+/// WebSockets.
 pub const MOST_CONNECTIONS_OF_ADDRESS: u32 = 128;
 
-/// The most matches that an address makes in a minute.
+/// The most matches that an address can make in a minute.
 pub const MOST_MADE_BY_ADDRESS: u32 = 10;
 
-/// The address of a client: 16 bytes, of which one of IPv6 has the first 8 alone, as a network has
-/// the others to give.
+/// The address of a client, in 16 bytes. For IPv6 it has only the first 8 bytes of the address and
+/// then zeros, because one network can hand out all the others.
 pub(crate) type Address = [u8; 16];
 
-/// Returns the address of the client whose request a proxy has passed on: the last one of the last
-/// `x-forwarded-for`. Returns None where no proxy has said one: then the client is on this machine.
+/// Returns the address of a client whose request a proxy has passed on: the last address in the
+/// last `x-forwarded-for`. Returns `None` if no proxy has named one; then the client is on this
+/// machine.
 pub(crate) fn address_of(request: &Request<Bytes>) -> Option<Address> {
     let mut said = None;
     for value in request.headers().get_all("x-forwarded-for") {
@@ -28,7 +30,7 @@ pub(crate) fn address_of(request: &Request<Bytes>) -> Option<Address> {
     said
 }
 
-/// Returns the last address of a list; what is no address is one like another.
+/// Returns the last address in a list. All text that isn't an address counts as the same address.
 fn address_in(list: &[u8]) -> Address {
     let text = str::from_utf8(list).unwrap_or("");
     let last = match text.rsplit_once(',') {
@@ -41,7 +43,7 @@ fn address_in(list: &[u8]) -> Address {
     }
 }
 
-/// Returns what is compared of an address.
+/// Returns the part of an address that is compared.
 fn key_of(address: IpAddr) -> Address {
     match address.to_canonical() {
         IpAddr::V4(address) => address.to_ipv6_mapped().octets(),
@@ -52,14 +54,14 @@ fn key_of(address: IpAddr) -> Address {
     }
 }
 
-/// What is known of an address.
+/// What is known about an address.
 #[derive(Clone, Copy)]
 struct Known {
     address: Address,
-    /// How many connections it has, and how many of them are sockets.
+    /// The number of its connections, and that of its WebSockets.
     connections: u32,
     sockets: u32,
-    /// The minute in which it made a match last, and how many it made in it.
+    /// The minute in which it last made a match, and how many it made in that minute.
     minute: u64,
     made: u32,
 }
@@ -76,7 +78,8 @@ impl Known {
     }
 }
 
-/// What is known of all addresses that have sockets, or made matches in this minute.
+/// What is known about all addresses that have connections or WebSockets, or have made matches in
+/// this minute.
 #[derive(Drop)]
 pub(crate) struct Addresses {
     known: Vec<Known>,
@@ -84,7 +87,7 @@ pub(crate) struct Addresses {
 }
 
 impl Addresses {
-    /// Creates an empty one: nothing is known of any address.
+    /// Returns an empty table: nothing is known about any address.
     pub(crate) fn none(alloc: Global) -> Addresses {
         Addresses {
             known: Vec::new(alloc),
@@ -92,7 +95,7 @@ impl Addresses {
         }
     }
 
-    /// Notes which minute it is, and forgets what need not be known any more.
+    /// Sets the current minute, and forgets the addresses that no longer matter.
     pub(crate) fn begin_minute(&mut self, minute: u64) {
         if minute != self.minute {
             self.minute = minute;
@@ -100,7 +103,7 @@ impl Addresses {
         }
     }
 
-    /// Returns whether a client may have one more socket.
+    /// Returns whether a client may have one more WebSocket.
     pub(crate) fn may_come(&self, address: Option<Address>) -> bool {
         match self.find(address) {
             Some(known) => known.sockets < MOST_OF_ADDRESS,
@@ -116,14 +119,14 @@ impl Addresses {
         }
     }
 
-    /// Notes that a client has one connection more.
+    /// Counts one connection more of a client.
     pub(crate) fn connect(&mut self, address: Option<Address>) {
         if let Some(known) = self.find_or_add(address) {
             known.connections = known.connections.saturating_add(1);
         }
     }
 
-    /// Notes that a client has one connection less.
+    /// Counts one connection fewer of a client.
     pub(crate) fn disconnect(&mut self, address: Option<Address>) {
         if let Some(known) = self.find_or_add(address) {
             known.connections = known.connections.saturating_sub(1);
@@ -138,21 +141,21 @@ impl Addresses {
         }
     }
 
-    /// Notes that a client has one socket more.
+    /// Counts one WebSocket more of a client.
     pub(crate) fn come(&mut self, address: Option<Address>) {
         if let Some(known) = self.find_or_add(address) {
             known.sockets = known.sockets.saturating_add(1);
         }
     }
 
-    /// Notes that a client has one socket less.
+    /// Counts one WebSocket fewer of a client.
     pub(crate) fn leave(&mut self, address: Option<Address>) {
         if let Some(known) = self.find_or_add(address) {
             known.sockets = known.sockets.saturating_sub(1);
         }
     }
 
-    /// Notes that a client has made a match.
+    /// Counts a match that a client has made.
     pub(crate) fn make(&mut self, address: Option<Address>) {
         let minute = self.minute;
         if let Some(known) = self.find_or_add(address) {
@@ -161,7 +164,7 @@ impl Addresses {
         }
     }
 
-    /// Returns what is known of an address, if there is one.
+    /// Returns what is known about an address; `None` if nothing is, or if there is no address.
     fn find(&self, address: Option<Address>) -> Option<Known> {
         let address = address?;
         for known in self.known.iter() {
@@ -172,8 +175,8 @@ impl Addresses {
         None
     }
 
-    /// Returns what is known of an address, which is added where it is new. Returns None where
-    /// there is no memory for it, or no address.
+    /// Returns what is known about an address, after adding it if it is new. Returns `None` if
+    /// there is no address, or if memory runs out.
     fn find_or_add(&mut self, address: Option<Address>) -> Option<&mut Known> {
         let address = address?;
         let mut found = self.known.len();
@@ -188,7 +191,7 @@ impl Addresses {
         self.known.get_mut(found)
     }
 
-    /// Adds an address of which nothing is known.
+    /// Adds an address about which nothing is known.
     fn add(&mut self, address: Address) -> Result<(), AllocError> {
         self.known.push(Known {
             address,

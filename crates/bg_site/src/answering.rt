@@ -64,7 +64,7 @@ impl<K: Keeper + Drop, S: Store<K> + Drop> Site<K, S> {
         }
     }
 
-    /// Answers a request that changes nothing.
+    /// Answers a GET or HEAD request.
     fn get(&mut self, request: &Request<Bytes>, response: &mut Response) -> Result<(), AllocError> {
         match target_of(request.uri().path()) {
             Target::Home => answer_page(response, Page::Home),
@@ -83,7 +83,7 @@ impl<K: Keeper + Drop, S: Store<K> + Drop> Site<K, S> {
         }
     }
 
-    /// Answers with what is counted.
+    /// Answers with the metrics.
     fn answer_metrics(&self, response: &mut Response) -> Result<(), AllocError> {
         let text = metrics_text(
             self.alloc,
@@ -95,7 +95,7 @@ impl<K: Keeper + Drop, S: Store<K> + Drop> Site<K, S> {
         answer_text(response, Kind::Plain, text)
     }
 
-    /// Answers with a part of a match.
+    /// Answers a request for a part of a match.
     fn get_part(
         &mut self,
         request: &Request<Bytes>,
@@ -124,7 +124,7 @@ impl<K: Keeper + Drop, S: Store<K> + Drop> Site<K, S> {
         self.answer_asked(index, asked, response)
     }
 
-    /// Answers a request that may change something.
+    /// Answers a POST request.
     fn post(
         &mut self,
         request: &Request<Bytes>,
@@ -143,7 +143,7 @@ impl<K: Keeper + Drop, S: Store<K> + Drop> Site<K, S> {
     }
 }
 
-/// Answers that there is nothing of this name.
+/// Answers that there is nothing at this path.
 pub(crate) fn missing(response: &mut Response) -> Result<(), AllocError> {
     refuse(response, StatusCode::NOT_FOUND, "there is nothing here\n")
 }

@@ -1,4 +1,4 @@
-//! Whose a connection is.
+//! The clients of connections.
 
 use crate::addresses::{Address, address_of};
 use crate::sites::Site;
@@ -7,36 +7,37 @@ use bg_world::Keeper;
 use bytes::Bytes;
 use http::Request;
 
-/// Whose a connection is: that of the address from which its latest request came, if a proxy has
-/// said one.
+/// The client of a connection: the address that its latest admitted request came from, if a proxy
+/// has named one.
 #[derive(Clone, Copy)]
 pub struct Caller {
     address: Option<Address>,
 }
 
 impl Caller {
-    /// Nobody has said it yet.
+    /// The client of a connection for which no address has been named yet.
     pub const UNKNOWN: Caller = Caller { address: None };
 }
 
 impl<K: Keeper + Drop, S: Store<K> + Drop> Site<K, S> {
-    /// Says whose the connection is whose requests are handed in next.
+    /// Sets the client of the connection whose requests are handed in next.
     pub fn begin_requests(&mut self, caller: Caller) {
         self.caller = caller;
     }
 
-    /// Returns whose the connection is after these requests.
+    /// Returns the client of the connection after these requests.
     pub fn caller(&self) -> Caller {
         self.caller
     }
 
-    /// Notes that a connection has ended.
+    /// Notes that a client's connection has ended.
     pub fn end_connection(&mut self, caller: Caller) {
         self.addresses.disconnect(caller.address);
     }
 
-    /// Notes from which address a request came on the connection at hand, if that may have this
-    /// connection. Returns whether it may.
+    /// Returns whether a request is admitted. If its address differs from that of the current
+    /// connection, the connection counts for the new address from then on. The request is refused
+    /// if the new address already has too many connections.
     pub(crate) fn admit(&mut self, request: &Request<Bytes>) -> bool {
         let address = address_of(request);
         if address == self.caller.address {

@@ -1,4 +1,4 @@
-//! The socket of a peer, once it is one: bytes in, bytes out.
+//! The WebSocket of a peer, after the upgrade: bytes in, bytes out.
 ghost use Rattle.std.specs.Prelude.{◌↔◌, ◌≤◌, ◌<◌, IsTrue, length};
 
 use crate::peers::Peer;
@@ -13,27 +13,27 @@ use std::io;
 use std::io::{Read, Write};
 use websocket::protocol::{FrameStatus, Message, NoMask, Role, WebSocketConfig, WebSocketContext};
 
-/// The most bytes that wait for a peer before nothing more is read from it.
+/// While more bytes than this wait to be sent to a peer, nothing more is read from it.
 pub const MOST_WAITING: usize = 65_536;
 
-/// The most messages of a peer that are taken in one turn, so that others have theirs.
+/// The most messages of a peer that are handled in one turn, so that other peers get their turns.
 const MOST_TAKEN: u32 = 64;
 
-/// So much room a read has at least.
+/// The minimum room for a read, in bytes.
 const ROOM: usize = 2048;
 
 /// The state of a peer after a step.
 #[derive(Clone, Copy, PartialEq, Eq)]
 pub enum Step {
-    /// There is nothing to do until its socket is ready again.
+    /// There is nothing to do until its WebSocket is ready again.
     Waits,
     /// There may be more to do.
     More,
-    /// It is gone, or has to go.
+    /// It is gone, or must be disconnected.
     Gone,
 }
 
-/// A WebSocket: what was read of it and not taken yet, and what waits to be sent.
+/// A WebSocket: the bytes that were read and not handled yet, and those that wait to be sent.
 #[derive(Drop)]
 pub struct Channel {
     alloc: Global,
@@ -44,7 +44,8 @@ pub struct Channel {
 }
 
 impl Channel {
-    /// Creates the socket of a peer, of which `input` was read, and for which `output` waits.
+    /// Creates the WebSocket of a peer. `input` has the bytes that were already read from it, and
+    /// `output` those that wait to be sent.
     pub fn new(alloc: Global, input: BytesMut, output: Rope, peer: Peer) -> Channel {
         let config = WebSocketConfig::default()
             .max_message_size(Some(MOST_MESSAGE))
@@ -58,7 +59,7 @@ impl Channel {
         }
     }
 
-    /// Returns the peer whose socket it is.
+    /// Returns the peer that has this WebSocket.
     pub fn peer(&self) -> &Peer {
         &self.peer
     }
@@ -70,33 +71,35 @@ impl Channel {
         !self.output.is_empty()
     }
 
-    /// Returns whether more is to be read from it: not while more than 65,536 bytes wait.
+    /// Returns whether to read more from the peer: not while more than 65,536 bytes wait to be
+    /// sent.
     pub fn wants_read(&self) -> bool
         ensures { IsTrue result ↔ (length self.now.output.items ≤ MOST_WAITING) }
     {
         self.output.len() <= MOST_WAITING
     }
 
-    /// Reads once, and returns how many bytes came.
+    /// Reads once, and returns the number of bytes that were read.
     ///
     /// # Errors
-    /// Why nothing could be read.
+    /// The reason why nothing could be read.
     pub fn read_from<R: Read>(&mut self, reader: &mut R) -> io::Result<usize> {
         self.input.reserve(ROOM)?;
         self.input.read_from(reader)
     }
 
-    /// Writes once, and returns how many bytes went.
+    /// Writes once, and returns the number of bytes that were written.
     ///
     /// # Errors
-    /// Why nothing could be written.
+    /// The reason why nothing could be written.
     pub fn write_to<W: Write>(&mut self, writer: &mut W) -> io::Result<usize> {
         let count = writer.write(self.output.chunk())?;
         self.output.advance(count);
         Ok(count)
     }
 
-    /// Takes the messages that are whole, and puts the answers to them behind what waits.
+    /// Handles the messages that are complete, at most 64 in one call, and queues the answers to
+    /// them.
     pub fn take_messages<K, S>(&mut self, site: &mut Site<K, S>) -> Step
     where
         K: Keeper + Drop,
@@ -111,7 +114,7 @@ impl Channel {
         Step::More
     }
 
-    /// Takes a frame, if there is a whole one.
+    /// Handles a frame, if a complete one has been read.
     fn take_frame<K, S>(&mut self, site: &mut Site<K, S>) -> Step
     where
         K: Keeper + Drop,
@@ -144,7 +147,7 @@ impl Channel {
         }
     }
 
-    /// Puts bytes behind what waits; returns whether there was memory for them.
+    /// Queues bytes to be sent. Returns whether there was memory for them.
     fn put(&mut self, bytes: BytesMut) -> bool {
         match bytes.freeze() {
             Ok(bytes) => self.output.push(bytes).is_ok(),
@@ -152,7 +155,7 @@ impl Channel {
         }
     }
 
-    /// Queues the next frame that the peer lacks; returns `Waits` if it lacks none.
+    /// Queues the next frame that the peer lacks. Returns `Waits` if it lacks none.
     pub fn pull<K, S>(&mut self, site: &mut Site<K, S>) -> Step
     where
         K: Keeper + Drop,
@@ -171,7 +174,7 @@ impl Channel {
         }
     }
 
-    /// Asks whether the peer is there; returns whether there was memory to do so.
+    /// Queues a ping, to learn whether the peer is still there. Returns whether this succeeded.
     pub fn ask(&mut self) -> bool {
         let mut out = BytesMut::new(self.alloc);
         match self
@@ -184,7 +187,7 @@ impl Channel {
     }
 }
 
-/// Puts the answer to a text behind what waits; returns whether the peer may stay.
+/// Queues the answer to a text message. Returns whether the peer may stay.
 fn answer_text<K, S>(site: &mut Site<K, S>, peer: &mut Peer, text: &str, output: &mut Rope) -> bool
 where
     K: Keeper + Drop,

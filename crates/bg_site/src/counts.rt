@@ -1,4 +1,4 @@
-//! Counters of a server, as Prometheus reads them.
+//! The counters of a server, in the format that Prometheus reads.
 
 use crate::places::Place;
 use crate::quiet::Patience;
@@ -7,14 +7,14 @@ use bg_hosted::Acted;
 use bg_text::{put_number, put_text};
 use std::alloc::{AllocError, Global};
 
-/// The counters since the server began.
+/// The counters since the server started.
 #[derive(Clone, Copy)]
 pub(crate) struct Counts {
-    /// How many connections there are.
+    /// The current number of connections.
     pub(crate) connections: u64,
-    /// How many matches were made by requests.
+    /// The number of matches made by requests.
     pub(crate) made: u64,
-    /// How many have ended.
+    /// The number of matches that have ended.
     pub(crate) ended: u64,
     pub(crate) requests: u64,
     done: u64,
@@ -24,7 +24,7 @@ pub(crate) struct Counts {
 }
 
 impl Counts {
-    /// Nothing.
+    /// The counters at the start: all are 0.
     pub(crate) const NONE: Counts = Counts {
         connections: 0,
         made: 0,
@@ -41,7 +41,7 @@ impl Counts {
         self.ended = self.ended.saturating_add(1);
     }
 
-    /// Counts what came of an action.
+    /// Counts the outcome of an action.
     pub(crate) fn note(&mut self, acted: Acted) {
         let counted = match acted {
             Acted::Done => &mut self.done,
@@ -53,7 +53,7 @@ impl Counts {
     }
 }
 
-/// The number of matches, and of peers that look at them.
+/// The numbers of matches, and of the peers connected to them.
 #[derive(Clone, Copy)]
 struct Crowd {
     live: u64,
@@ -64,7 +64,7 @@ struct Crowd {
 }
 
 impl Crowd {
-    /// Counts the matches that were not deleted, and the peers that look at them.
+    /// Counts the matches that are not deleted, and the peers connected to them.
     fn of<K>(places: &[Place<K>], patience: Patience) -> Crowd {
         let mut crowd = Crowd {
             live: 0,
@@ -81,7 +81,7 @@ impl Crowd {
         crowd
     }
 
-    /// Returns the numbers with a match more, and the peers that look at it.
+    /// Returns the numbers with one more match and its peers.
     fn with<K>(self, place: &Place<K>, patience: Patience) -> Crowd {
         let is_finished = place.summary.winner.is_some();
         let is_idle = !is_finished && patience.is_over(place.quiet);
@@ -99,7 +99,7 @@ impl Crowd {
     }
 }
 
-/// Returns what is counted (docs/SERVING.md, "Logs and metrics").
+/// Returns the metrics of a server (docs/SERVING.md, "Logs and metrics").
 pub(crate) fn metrics_text<K>(
     alloc: Global,
     places: &[Place<K>],
@@ -114,7 +114,7 @@ pub(crate) fn metrics_text<K>(
     Ok(out)
 }
 
-/// Adds what there is now.
+/// Adds the current values.
 fn put_gauges(out: &mut Vec<u8>, crowd: Crowd, connections: u64) -> Result<(), AllocError> {
     let matches = [
         ("{state=\"live\"}", crowd.live),
@@ -135,7 +135,7 @@ fn put_gauges(out: &mut Vec<u8>, crowd: Crowd, connections: u64) -> Result<(), A
     )
 }
 
-/// Adds what has happened since the server began.
+/// Adds the counters since the server started.
 fn put_counters(out: &mut Vec<u8>, counts: Counts) -> Result<(), AllocError> {
     let actions = [
         ("{result=\"done\"}", counts.done),
@@ -164,7 +164,7 @@ fn put_counters(out: &mut Vec<u8>, counts: Counts) -> Result<(), AllocError> {
     put_rows(out, "bg_relay_actions_total", COUNTER, &actions)
 }
 
-/// Adds what the disk has done since then.
+/// Adds the counters of saves since the server started.
 fn put_saves(out: &mut Vec<u8>, saves: Saves) -> Result<(), AllocError> {
     let rows = [
         ("{result=\"done\"}", saves.done),
@@ -177,7 +177,7 @@ fn put_saves(out: &mut Vec<u8>, saves: Saves) -> Result<(), AllocError> {
     put_text(out, "\n")
 }
 
-/// Adds a number of microseconds as seconds, with six digits behind the point.
+/// Adds a number of microseconds as seconds, with six digits after the point.
 fn put_seconds(out: &mut Vec<u8>, micros: u64) -> Result<(), AllocError> {
     let rest = micros % 1_000_000;
     put_number(out, micros / 1_000_000)?;
@@ -190,10 +190,10 @@ fn put_seconds(out: &mut Vec<u8>, micros: u64) -> Result<(), AllocError> {
     put_number(out, rest)
 }
 
-/// The end of the line that says that a number only grows.
+/// The end of a line that declares a counter, which only grows.
 const COUNTER: &str = " counter\n";
 
-/// Adds the numbers of a name, one of each label, behind the line of their kind.
+/// Adds the line with the type of a metric, and its value for each label.
 fn put_rows(
     out: &mut Vec<u8>,
     name: &str,
@@ -209,7 +209,7 @@ fn put_rows(
     Ok(())
 }
 
-/// Adds the number of a name with a label.
+/// Adds the line with the value of a metric for a label.
 fn put_count(out: &mut Vec<u8>, name: &str, label: &str, count: u64) -> Result<(), AllocError> {
     put_text(out, name)?;
     put_text(out, label)?;

@@ -1,4 +1,4 @@
-//! What is told of the dice of a match.
+//! What is published about the dice of a match.
 ghost use Rattle.std.specs.Prelude.{◌≡◌, IfOk};
 ghost use Rattle.bg_dice.specs.Secrets.{told_text as text_of_told};
 ghost use Rattle.bg_site.specs.Places.{secret_in};
@@ -14,8 +14,8 @@ use http_server::Response;
 use std::alloc::{AllocError, Global};
 
 impl<K: Keeper + Drop, S: Store<K> + Drop> Site<K, S> {
-    /// Answers with what is told of the dice of a match: the SHA-256 of their secret, and the
-    /// secret once the match has ended.
+    /// Answers with what is published about the dice of a match: the SHA-256 of their secret, and
+    /// the secret itself once the match has ended.
     pub(crate) fn answer_dice(
         &self,
         index: usize,
@@ -36,7 +36,7 @@ impl<K: Keeper + Drop, S: Store<K> + Drop> Site<K, S> {
     }
 }
 
-/// Returns what is told of the dice of a match.
+/// Returns what is published about the dice of a match.
 fn dice_text<K: Keeper + Drop>(alloc: Global, place: &Place<K>) -> Result<Vec<u8>, AllocError>
     ensures { IfOk result (λ text. text.items
         ≡ text_of_told place.now.digest (secret_in place.now)) }

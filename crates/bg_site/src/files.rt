@@ -21,18 +21,18 @@ use std::alloc::{AllocError, Global};
 /// A text about a match.
 #[derive(Clone, Copy, PartialEq, Eq)]
 pub(crate) enum Asked {
-    /// The state, as a player is told it, or those who watch.
+    /// The state, for a player, or for watchers if `None`.
     State(Option<Player>),
-    /// The state after so many entries, for those who watch.
+    /// The state after this many entries, for watchers.
     StateAfter(Number),
     Transcript,
-    /// The match file of other programs.
+    /// A match file for other programs.
     Mat,
     Picture,
 }
 
 impl Asked {
-    /// Returns what kind of text it is.
+    /// Returns the kind of the text.
     fn kind(self) -> Kind {
         match self {
             Asked::State(_) | Asked::StateAfter(_) => Kind::Json,
@@ -46,7 +46,7 @@ impl Asked {
 #[derive(Drop)]
 pub(crate) enum Given {
     Text(Vec<u8>),
-    /// The match has no such text, as it has fewer entries.
+    /// The match has no such text, because it has fewer entries.
     Missing,
     /// The match can't be read.
     Unreadable,
@@ -93,7 +93,7 @@ impl<K: Keeper + Drop, S: Store<K> + Drop> Site<K, S> {
     }
 }
 
-/// Returns a text about the match of a record.
+/// Returns a text about the match with this record.
 fn text_of(alloc: Global, record: &Record, asked: Asked) -> Result<Given, AllocError>
     ensures { IfOk result (λ given. IsGivenOf record.now asked given) }
 {
@@ -107,7 +107,7 @@ fn text_of(alloc: Global, record: &Record, asked: Asked) -> Result<Given, AllocE
     Ok(Given::Text(text))
 }
 
-/// Returns the state of a match after so many of its entries.
+/// Returns the state of a match after this many of its entries.
 fn state_after(alloc: Global, record: &Record, count: Number) -> Result<Given, AllocError>
     ensures { IfOk result (λ given. IsGivenOf record.now (asked_of.StateAfter count) given) }
 {

@@ -1,12 +1,11 @@
-//! Texts as frames of a WebSocket.
+//! Texts as WebSocket frames.
 
 use bg_board::Player;
 use bytes::{Bytes, BytesMut};
 use std::alloc::{AllocError, Global};
 use websocket::protocol::{Message, NoMask, Role, WebSocketConfig, WebSocketContext};
 
-/// The frames of the state of a match, as far as they were made: for those who watch, for X and for
-/// O.
+/// The frames of the state of a match that have been made so far: for watchers, for X and for O.
 #[derive(Drop)]
 pub(crate) struct Frames {
     watching: Option<Bytes>,
@@ -15,7 +14,7 @@ pub(crate) struct Frames {
 }
 
 impl Frames {
-    /// Returns no frames: none was made yet.
+    /// Returns an empty set of frames.
     pub(crate) fn none() -> Frames {
         Frames {
             watching: None,
@@ -24,7 +23,7 @@ impl Frames {
         }
     }
 
-    /// Returns the frame for a peer with this seat, or with none, if it was made.
+    /// Returns the frame for peers with this seat, or for watchers, if it has been made.
     pub(crate) fn of(&self, seat: Option<Player>) -> Result<Option<Bytes>, AllocError> {
         let frame = match seat {
             None => &self.watching,
@@ -37,7 +36,7 @@ impl Frames {
         }
     }
 
-    /// Keeps the frame for peers with this seat, or with none.
+    /// Keeps the frame for peers with this seat, or for watchers.
     pub(crate) fn keep(&mut self, seat: Option<Player>, frame: Bytes) {
         match seat {
             None => self.watching = Some(frame),
@@ -47,11 +46,11 @@ impl Frames {
     }
 }
 
-/// Returns a text message of a server as a frame: the same bytes for every peer, as a server masks
-/// nothing.
+/// Returns a text message of a server as a frame. The bytes are the same for every peer, since a
+/// server doesn't mask its frames.
 ///
 /// # Errors
-/// AllocError where there is no memory for it, or the text is no UTF-8.
+/// `AllocError` if memory runs out, or if the text isn't UTF-8.
 pub(crate) fn frame_of(alloc: Global, text: &[u8]) -> Result<Bytes, AllocError> {
     let Ok(text) = str::from_utf8(text) else {
         return Err(AllocError);

@@ -1,4 +1,4 @@
-//! Messages to a peer beside the state: which match it is, and who is there.
+//! Messages to a peer other than the state: the greeting, and who is present.
 
 use crate::making::digits_of;
 use crate::presences::Presence;
@@ -9,8 +9,8 @@ use bg_system::{Name, Names};
 use bg_text::{put_number, put_text};
 use std::alloc::{AllocError, Global};
 
-/// Returns the match that a peer looks at, the names of its players, whose seat the peer has, and
-/// the SHA-256 of the secret of its dice.
+/// Returns the greeting of a peer: the name of its match, the names of the players, its seat, and
+/// the SHA-256 of the secret of the dice.
 pub(crate) fn greeting_text(
     alloc: Global,
     name: &str,
@@ -27,7 +27,7 @@ pub(crate) fn greeting_text(
     Ok(out)
 }
 
-/// Adds which match it is, how its players are called, and whose seat a peer has.
+/// Adds the name of the match, the names of its players, and the seat of a peer.
 fn put_greeting(
     out: &mut Vec<u8>,
     name: &str,
@@ -42,7 +42,7 @@ fn put_greeting(
     put_text(out, "\"")
 }
 
-/// Adds how the players are called.
+/// Adds the names of the players.
 pub(crate) fn put_names(out: &mut Vec<u8>, names: &Names) -> Result<(), AllocError> {
     put_text(out, ",\"names\":[")?;
     put_name(out, &names.x)?;
@@ -51,7 +51,7 @@ pub(crate) fn put_names(out: &mut Vec<u8>, names: &Names) -> Result<(), AllocErr
     put_text(out, "]")
 }
 
-/// Adds a name; an empty one where there is none.
+/// Adds a name, or an empty one if there is none.
 fn put_name(out: &mut Vec<u8>, name: &Option<Name>) -> Result<(), AllocError> {
     match name {
         None => put_quoted(out, ""),
@@ -59,7 +59,7 @@ fn put_name(out: &mut Vec<u8>, name: &Option<Name>) -> Result<(), AllocError> {
     }
 }
 
-/// Returns who is there.
+/// Returns the message that says who is present.
 pub(crate) fn presence_text(alloc: Global, presence: Presence) -> Result<Vec<u8>, AllocError> {
     let mut out = Vec::new(alloc);
     put_text(&mut out, "{")?;
@@ -68,7 +68,7 @@ pub(crate) fn presence_text(alloc: Global, presence: Presence) -> Result<Vec<u8>
     Ok(out)
 }
 
-/// Adds who is there: whether X and O are, and how many watch.
+/// Adds who is present: whether X and O are, and the number of watchers.
 pub(crate) fn put_presence(out: &mut Vec<u8>, presence: Presence) -> Result<(), AllocError> {
     put_text(out, "\"here\":[")?;
     put_text(out, truth(presence.x > 0))?;

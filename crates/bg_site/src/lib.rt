@@ -1,6 +1,6 @@
-//! What requests and messages do to the matches of a server, and which bytes a peer gets. It opens
-//! no socket and no file: the host hands in bytes, and keeps the matches. For `bg_serve`, and hosts
-//! of another kind.
+//! Handles the requests and messages to a server of matches, and makes the bytes that each peer
+//! gets. It opens no socket and no file: the host passes bytes in, and keeps the matches. For
+//! `bg_serve`, and for hosts of other kinds.
 //!
 //! ```
 //! let mut site = Site::new(alloc, store);

@@ -17,14 +17,14 @@ const PAGE: usize = 50;
 #[derive(Clone, Copy, PartialEq, Eq)]
 pub(crate) enum List {
     Live,
-    /// Those in which nobody has acted for a long time.
+    /// Matches in which nobody has acted for a long time.
     Idle,
-    /// Those that have ended.
+    /// Matches that have ended.
     Finished,
 }
 
 impl List {
-    /// Returns the list that is called so: that of live matches, where it is none of the others.
+    /// Returns the list with this name; the list of live matches if it names no other.
     fn named(name: Option<&str>) -> List {
         match name {
             Some("finished") => List::Finished,
@@ -33,7 +33,7 @@ impl List {
         }
     }
 
-    /// Returns the list that a match is on; None where it is on none.
+    /// Returns the list that a match is on; `None` if it is on none.
     pub(crate) fn of<K>(place: &Place<K>, patience: Patience) -> Option<List> {
         if place.is_hidden || place.is_gone {
             return None;
@@ -49,22 +49,22 @@ impl List {
     }
 }
 
-/// Which matches are asked for.
+/// The matches that a request asks for.
 #[derive(Clone, Copy)]
 pub(crate) struct Wanted<'a> {
     list: List,
     patience: Patience,
-    /// How many pages stand before the one that is wanted.
+    /// The number of pages before the requested one.
     before: u32,
-    /// What the name of a player, or of the match, is to have in it, in lower case.
+    /// The text that the name of a player or of the match must contain, in lower case.
     search: &'a str,
-    /// Whether those with the oldest news come first.
+    /// Whether the least recently changed matches come first.
     is_oldest_first: bool,
 }
 
 impl<'a> Wanted<'a> {
-    /// Returns what a query asks for, `list=finished`, `page=N`, with the text that it searches
-    /// for, which is in lower case.
+    /// Returns what a query such as `list=finished&page=N` asks for. `search` is the text that it
+    /// searches for, in lower case.
     pub(crate) fn of(query: Option<&str>, search: &'a str, patience: Patience) -> Wanted<'a> {
         Wanted {
             list: List::named(query_part(query, "list")),
@@ -75,7 +75,8 @@ impl<'a> Wanted<'a> {
         }
     }
 
-    /// Returns the same, with the oldest news first: so a page stays as it is once it is full.
+    /// Returns the same, with the least recently changed matches first, so that a full page stays
+    /// the same.
     pub(crate) fn oldest_first(self) -> Wanted<'a> {
         Wanted {
             is_oldest_first: true,
@@ -83,7 +84,7 @@ impl<'a> Wanted<'a> {
         }
     }
 
-    /// Returns whether a match is among those asked for.
+    /// Returns whether a match is one of those asked for.
     fn takes<K>(&self, alloc: Global, place: &Place<K>) -> Result<bool, AllocError> {
         if List::of(place, self.patience) != Some(self.list) {
             return Ok(false);
@@ -98,7 +99,7 @@ impl<'a> Wanted<'a> {
         )
     }
 
-    /// Returns where a match stands in the list, by its news.
+    /// Returns the sort key of a match in the list, by its latest change.
     fn rank<K>(&self, place: &Place<K>) -> u64 {
         if self.is_oldest_first {
             place.news
@@ -108,7 +109,7 @@ impl<'a> Wanted<'a> {
     }
 }
 
-/// Returns how many pages stand before the one of this number, which is counted from 1.
+/// Returns the number of pages before the page with this number, which counts from 1.
 fn pages_before(digits: Option<&str>) -> u32 {
     match digits.unwrap_or("1").parse::<u32>() {
         Ok(page) => page.saturating_sub(1),
@@ -116,7 +117,7 @@ fn pages_before(digits: Option<&str>) -> u32 {
     }
 }
 
-/// Returns whether there is a name that contains the text.
+/// Returns whether there is a name and it contains the text.
 fn is_named(alloc: Global, name: &Option<Name>, search: &str) -> Result<bool, AllocError> {
     match name {
         Some(name) => has_text(alloc, name.as_str(), search),
@@ -124,13 +125,13 @@ fn is_named(alloc: Global, name: &Option<Name>, search: &str) -> Result<bool, Al
     }
 }
 
-/// Returns whether a text, in lower case, contains another.
+/// Returns whether a text, after conversion to lower case, contains another.
 fn has_text(alloc: Global, text: &str, search: &str) -> Result<bool, AllocError> {
     let text = text.to_lowercase(alloc)?;
     Ok(text.as_str().contains(search))
 }
 
-/// Returns a page of a list, those with the latest news first.
+/// Returns a page of a list, the most recently changed matches first.
 pub(crate) fn list_text<K>(
     alloc: Global,
     places: &[Place<K>],
@@ -142,7 +143,7 @@ pub(crate) fn list_text<K>(
     Ok(out)
 }
 
-/// Adds a page of the matches that were found.
+/// Adds the requested page of the matches that were found.
 fn put_list<K>(
     out: &mut Vec<u8>,
     places: &[Place<K>],
@@ -161,7 +162,7 @@ fn put_list<K>(
     put_text(out, "]}")
 }
 
-/// Returns the places of the matches on the page that is asked for.
+/// Returns the indexes of the matches on the requested page.
 pub(crate) fn page_of<K>(
     alloc: Global,
     places: &[Place<K>],
@@ -176,7 +177,7 @@ pub(crate) fn page_of<K>(
     Ok(page)
 }
 
-/// Returns the places of the matches that are asked for, in order.
+/// Returns the rank and the index of each match that is asked for, in order.
 fn found_by<K>(
     alloc: Global,
     places: &[Place<K>],
@@ -192,7 +193,7 @@ fn found_by<K>(
     Ok(found)
 }
 
-/// Returns the rows of a page that begins at this one.
+/// Returns the rows of the page that begins at this row.
 fn rows_from(found: &[(u64, usize)], start: usize) -> &[(u64, usize)] {
     let start = start.min(found.len());
     let end = start.saturating_add(PAGE).min(found.len());
@@ -216,7 +217,7 @@ fn put_rows<K>(
     Ok(())
 }
 
-/// Adds what stands before a match: a comma, but before the first.
+/// Adds the comma before a match, unless it is the first.
 fn put_comma(out: &mut Vec<u8>, is_first: bool) -> Result<(), AllocError> {
     put_text(out, if is_first { "" } else { "," })
 }
@@ -234,7 +235,7 @@ fn put_row<K>(out: &mut Vec<u8>, place: &Place<K>) -> Result<(), AllocError> {
     put_text(out, "}")
 }
 
-/// Adds how a match stands.
+/// Adds the summary of a match.
 fn put_summary(out: &mut Vec<u8>, summary: Summary) -> Result<(), AllocError> {
     put_text(out, ",\"number\":")?;
     put_number(out, summary.entries.into())?;

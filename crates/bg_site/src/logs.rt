@@ -8,17 +8,17 @@ use http::Request;
 use http_server::Response;
 use std::alloc::AllocError;
 
-/// The most bytes of a log that are kept until the host takes them.
+/// A log with this many bytes or more gets no more lines until the host takes it.
 const MOST_LOG: usize = 65_536;
 
 impl<K: Keeper + Drop, S: Store<K> + Drop> Site<K, S> {
-    /// Keeps a line of each request from now on.
+    /// Logs a line for each request from now on.
     pub fn keep_log(&mut self) {
         self.log = Some(String::new(self.alloc));
     }
 
-    /// Returns the lines of the requests since it was asked last: method, path and status. No
-    /// secret is in a path. Returns None where no log is kept.
+    /// Returns the lines of the requests since the last call: method, path and status. A path never
+    /// contains a secret. Returns `None` if no log is kept.
     pub fn take_log(&mut self) -> Option<String> {
         let taken = self.log.take()?;
         self.log = Some(String::new(self.alloc));

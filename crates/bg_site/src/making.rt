@@ -23,7 +23,7 @@ use http_server::Response;
 use std::alloc::{AllocError, Global};
 
 impl<K: Keeper + Drop, S: Store<K> + Drop> Site<K, S> {
-    /// Answers with a page of the list of matches, or with an archive of what is on it.
+    /// Answers with a page of the list of matches, or with an archive of the matches on it.
     pub(crate) fn list(
         &self,
         request: &Request<Bytes>,
@@ -44,9 +44,9 @@ impl<K: Keeper + Drop, S: Store<K> + Drop> Site<K, S> {
         }
     }
 
-    /// Makes the match that a request asks for, and answers with the links of its seats: nobody
-    /// else is told them. A request with the key of an earlier one makes none, and is answered like
-    /// that.
+    /// Makes the match that a request asks for, and answers with its links. Nobody else is told the
+    /// links of its seats. A request with the key of an earlier one makes no match, and gets the
+    /// same answer as the earlier one.
     pub(crate) fn make(
         &mut self,
         request: &Request<Bytes>,
@@ -95,7 +95,7 @@ impl<K: Keeper + Drop, S: Store<K> + Drop> Site<K, S> {
         }
     }
 
-    /// Takes in a match that was made by a request of this key, and answers with its links.
+    /// Adds a match that was made by a request with this key, and answers with its links.
     fn answer_made(
         &mut self,
         made: Made<K>,
@@ -113,7 +113,7 @@ impl<K: Keeper + Drop, S: Store<K> + Drop> Site<K, S> {
         answer_text(response, Kind::Json, text)
     }
 
-    /// Lets the player act whose secret a request has.
+    /// Carries out an action of the player whose secret the request has.
     pub(crate) fn act_by_request(
         &mut self,
         request: &Request<Bytes>,
@@ -156,7 +156,7 @@ impl<K: Keeper + Drop, S: Store<K> + Drop> Site<K, S> {
     }
 }
 
-/// Answers that there are as many matches as may be.
+/// Answers that there is no room for another match.
 fn refuse_full(response: &mut Response) -> Result<(), AllocError> {
     refuse(
         response,
@@ -165,7 +165,7 @@ fn refuse_full(response: &mut Response) -> Result<(), AllocError> {
     )
 }
 
-/// Returns the links of a match that was made.
+/// Returns the links of a new match, as JSON.
 #[tactic(auto, unfolding(crate::specs::Links::links_text))]
 fn links_text(
     alloc: Global,
@@ -187,7 +187,7 @@ fn links_text(
     Ok(out)
 }
 
-/// Adds the SHA-256 of the secret of the dice, if there is one.
+/// Adds the SHA-256 of the secret of the dice, or an empty text if there is none.
 fn put_dice(alloc: Global, out: &mut Vec<u8>, dice: &Option<Digest>) -> Result<(), AllocError>
     ensures { OnOk result (out.new.items ≡ out.old.items ++ dice_text dice.now) }
 {
@@ -195,7 +195,7 @@ fn put_dice(alloc: Global, out: &mut Vec<u8>, dice: &Option<Digest>) -> Result<(
     put_link(out, ",\"dice\":\"", digits.as_str())
 }
 
-/// Returns the hexadecimal digits of a SHA-256, if there is one.
+/// Returns the hexadecimal digits of a SHA-256, or an empty string if there is none.
 pub(crate) fn digits_of(alloc: Global, digest: &Option<Digest>) -> Result<String, AllocError>
     ensures { IfOk result (λ digits. string_bytes digits ≡ digits_of_bytes digest.now) }
 {
@@ -205,7 +205,7 @@ pub(crate) fn digits_of(alloc: Global, digest: &Option<Digest>) -> Result<String
     }
 }
 
-/// Adds a link: these words, and what it ends with.
+/// Adds a link: the words before it, its end, and a closing quote.
 #[tactic(auto, unfolding(crate::specs::Links::link_text))]
 fn put_link(out: &mut Vec<u8>, words: &str, end: &str) -> Result<(), AllocError>
     ensures { OnOk result (out.new.items ≡ out.old.items ++ link_text words.now end.now) }

@@ -1,4 +1,4 @@
-//! Messages of peers, and the answers to them.
+//! Messages from peers, and the answers to them.
 ghost use Rattle.std.specs.Prelude.{◌≡◌, ℕ, None, Some};
 
 use crate::frames::frame_of;
@@ -23,18 +23,18 @@ pub struct Reply {
 impl<K: Keeper + Drop, S: Store<K> + Drop> Site<K, S> {
     ghost use Rattle.bg_site.specs.Places.{ChangesOnly, HasSeatBy, HasSeatByGreeting};
 
-    /// Takes a message of a peer, and returns the answer to it.
+    /// Handles a message from a peer, and returns the answer to it.
     ///
     /// # Errors
-    /// AllocError where there is no memory for it.
+    /// `AllocError` if memory runs out.
     pub fn message(&mut self, peer: &mut Peer, text: &str) -> Result<Reply, AllocError>
-        // A known peer stays what it is. A watcher changes nothing, and a player only their own
-        // match.
+        // A known peer stays as it is. A watcher changes nothing, and a player changes only their
+        // own match.
         ensures known { (place : ℕ) → peer.old.place ≡ Some place → peer.new ≡ peer.old }
         ensures watches { (place : ℕ) → peer.old.place ≡ Some place → peer.old.seat ≡ None → self.new ≡ self.old }
         ensures plays { (place : ℕ) → peer.old.place ≡ Some place
             → ChangesOnly self.old.places.items self.new.places.items place }
-        // An unknown peer gets the seat of the secret that it says, or none.
+        // An unknown peer gets the seat of the secret that it sends, or none.
         ensures seat { peer.old.place ≡ None → HasSeatByGreeting self.old.places.items text.now peer.new }
     {
         match parse_message(text) {
@@ -46,7 +46,7 @@ impl<K: Keeper + Drop, S: Store<K> + Drop> Site<K, S> {
         }
     }
 
-    /// Gives a peer the seat of its secret.
+    /// Gives a peer the seat that has this secret.
     fn hello(&mut self, peer: &mut Peer, secret: &str) -> Result<Reply, AllocError>
         ensures { peer.old.place ≡ None → HasSeatBy self.old.places.items secret.now peer.new }
     {
@@ -58,7 +58,7 @@ impl<K: Keeper + Drop, S: Store<K> + Drop> Site<K, S> {
         self.reply(b"{\"hello\":true}", true)
     }
 
-    /// Lets the player act whose seat a peer has.
+    /// Carries out an action of the player whose seat a peer has.
     fn act_by_message(&mut self, peer: &Peer, number: u32, words: &str) -> Result<Reply, AllocError>
         ensures watches { peer.now.seat ≡ None → self.new ≡ self.old }
         ensures plays { (place : ℕ) → peer.now.place ≡ Some place
@@ -81,7 +81,7 @@ impl<K: Keeper + Drop, S: Store<K> + Drop> Site<K, S> {
         })
     }
 
-    /// Lets a player act, and returns what came of it.
+    /// Carries out a player's action, and returns the answer to it.
     pub(crate) fn answer_of(
         &mut self,
         index: usize,

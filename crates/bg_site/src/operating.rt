@@ -1,4 +1,4 @@
-//! What the operator of a server changes of its matches while it runs.
+//! Changes that the operator of a server makes to its matches while it runs.
 
 use crate::peers::Peer;
 use crate::quiet::Quiet;
@@ -8,17 +8,17 @@ use bg_requests::Seats;
 use bg_system::Names;
 use bg_world::Keeper;
 
-/// What an operator may change of a match.
+/// The parts of a match that an operator may change.
 #[derive(Clone, Copy)]
 pub struct Changed {
     pub names: Names,
-    /// None where nobody may play it here.
+    /// `None` if nobody may play the match here.
     pub seats: Option<Seats>,
-    /// Whether lists leave it out.
+    /// Whether lists leave the match out.
     pub is_hidden: bool,
 }
 
-/// How often the link of each seat was made anew.
+/// The number of times that the link of each seat has been replaced.
 #[derive(Clone, Copy)]
 pub(crate) struct SeatChanges {
     pub(crate) x: u64,
@@ -26,10 +26,11 @@ pub(crate) struct SeatChanges {
 }
 
 impl SeatChanges {
-    /// Never.
+    /// The numbers at the start: no link has been replaced.
     pub(crate) const NONE: SeatChanges = SeatChanges { x: 0, o: 0 };
 
-    /// Notes which seats have another secret now.
+    /// Counts the seats that have another secret now. If there are no seats before or after, counts
+    /// both.
     pub(crate) fn note(&mut self, old: &Option<Seats>, new: &Option<Seats>) {
         let (Some(old), Some(new)) = (old, new) else {
             self.x = self.x.saturating_add(1);
@@ -46,13 +47,12 @@ impl SeatChanges {
 }
 
 impl<K: Keeper + Drop, S: Store<K> + Drop> Site<K, S> {
-    /// Sets after how many minutes without an action matches are listed apart from the live ones; 0
-    /// for never.
+    /// Sets after how many minutes without an action a match is listed as idle; 0 for never.
     pub fn set_idle(&mut self, minutes: u64) {
         self.patience.idle = minutes;
     }
 
-    /// Takes in what the operator has changed of a match; returns whether there is such a match.
+    /// Applies an operator's change to a match. Returns whether there is such a match.
     pub fn change(&mut self, name: &str, changed: Changed) -> bool {
         let Some(index) = self.by_name(name) else {
             return false;
@@ -64,9 +64,9 @@ impl<K: Keeper + Drop, S: Store<K> + Drop> Site<K, S> {
         true
     }
 
-    /// Takes in a match that another server has made, or has gone on with: it goes on from what its
-    /// keepers have now, and those who look at it are shown it anew. Returns false where there is no
-    /// room or no memory for it: then nothing changes.
+    /// Adds a match that another server has made, or updates one in which another server has acted.
+    /// The match continues from what its keepers have now, and its peers are sent its state again.
+    /// Returns false if there is no room or no memory for it; then nothing changes.
     pub fn replace(&mut self, found: Found<K>) -> bool {
         let Some(index) = self.by_name(found.name.as_str()) else {
             return self.open(found);
@@ -87,7 +87,7 @@ impl<K: Keeper + Drop, S: Store<K> + Drop> Site<K, S> {
         true
     }
 
-    /// Returns the name of the match that a peer looks at.
+    /// Returns the name of the match that a peer is connected to.
     pub fn name_of(&self, peer: &Peer) -> Option<&str> {
         match self.places.get(peer.place?) {
             Some(place) => Some(place.name.as_str()),
@@ -95,7 +95,7 @@ impl<K: Keeper + Drop, S: Store<K> + Drop> Site<K, S> {
         }
     }
 
-    /// Lets go of a match that the operator has deleted; returns whether there was such a match.
+    /// Removes a match that the operator has deleted. Returns whether there was such a match.
     pub fn remove(&mut self, name: &str) -> bool {
         let Some(index) = self.by_name(name) else {
             return false;
@@ -107,8 +107,8 @@ impl<K: Keeper + Drop, S: Store<K> + Drop> Site<K, S> {
         true
     }
 
-    /// Returns whether a peer may keep his socket: not where his match was deleted, or his seat has
-    /// another secret now.
+    /// Returns whether a peer may keep its WebSocket: not if its match has been deleted, or if its
+    /// seat has another secret now.
     pub(crate) fn may_stay(&self, peer: &Peer) -> bool {
         let Some(index) = peer.place else {
             return true;

@@ -1,4 +1,4 @@
-//! What the body of a request orders: a match.
+//! Orders: request bodies that ask for a new match.
 ghost use Rattle.std.specs.Prelude.{IfSome};
 ghost use Rattle.bg_requests.specs.Orders.{IsKeyOfOrder};
 
@@ -11,10 +11,10 @@ use bg_text::put_text;
 use serde_json::{Map, Value};
 use std::alloc::{AllocError, Global};
 
-/// What is said where a body is no object.
+/// The answer to a body that is not an object.
 const NO_OBJECT: &str = "the body is no JSON object like {\"length\":3}\n";
 
-/// What is said behind a key that an order may not have.
+/// The words after a key that an order may not have.
 const KNOWN_KEYS: &str = " is not known: a match has \"length\", \"rules\", \"x\" and \"o\"\n";
 
 /// A match that a request orders.
@@ -24,30 +24,30 @@ pub(crate) struct Ordered {
     pub(crate) names: Names,
 }
 
-/// What comes of reading an order.
+/// The result of reading an order.
 #[derive(Drop)]
 pub(crate) enum Order {
     Match(Ordered),
-    /// A line that says why it is none.
+    /// A line that says why the body is no order.
     Refused(Vec<u8>),
 }
 
-/// Why an object orders no match.
+/// The reason why an object orders no match.
 #[derive(Clone, Copy)]
 enum OrderFault {
     Length,
     Rules,
-    /// The name of this player is no text.
+    /// The name of this player is not a string.
     NoText(Player),
-    /// It is a text that is no name.
+    /// The name of this player is a string that is not allowed as a name.
     Name(Player, NameFault),
 }
 
-/// Returns the match that a body orders: `{"length":N,"rules":R,"x":NAME,"o":NAME}`, of which all
+/// Returns the match that a body orders: `{"length":N,"rules":R,"x":NAME,"o":NAME}`. All members
 /// but the length may be left out.
 ///
 /// # Errors
-/// AllocError where there is no memory for why it is refused.
+/// `AllocError` if there is no memory for the reason of a refusal.
 pub(crate) fn order_of(alloc: Global, body: &[u8]) -> Result<Order, AllocError> {
     let text = str::from_utf8(body).unwrap_or("");
     match Value::from_str(alloc, text) {
@@ -59,7 +59,7 @@ pub(crate) fn order_of(alloc: Global, body: &[u8]) -> Result<Order, AllocError> 
     }
 }
 
-/// Returns that a body is no object.
+/// Returns the refusal of a body that is not an object.
 fn no_object(alloc: Global) -> Result<Order, AllocError> {
     let mut why = Vec::new(alloc);
     put_text(&mut why, NO_OBJECT)?;
@@ -96,7 +96,7 @@ fn ordered_in(value: &Value) -> Result<Ordered, OrderFault> {
     })
 }
 
-/// Returns the first key, by the order of texts, that an order may not have.
+/// Returns the first key, in the order of strings, that an order may not have.
 fn unknown_key(members: &Map<String, Value>) -> Option<&str>
     ensures { IfSome result (λ key. IsKeyOfOrder key.now → ⊥) }
 {
@@ -124,7 +124,7 @@ fn terms_in(value: &Value) -> Result<Terms, OrderFault> {
     })
 }
 
-/// Returns the number in a member of an object.
+/// Returns the number in a member of an object, if there is one.
 fn number_in(value: &Value, member: &str) -> Option<u64> {
     value.get(member)?.as_u64()
 }
@@ -137,7 +137,7 @@ fn key_of(player: Player) -> &'static str {
     }
 }
 
-/// Returns the name of a player in an object, if there is one that is not empty.
+/// Returns the name of a player in an object, if there is one and it is not empty.
 fn name_in(value: &Value, player: Player) -> Result<Option<Name>, OrderFault> {
     let Some(found) = value.get(key_of(player)) else {
         return Ok(None);
@@ -152,7 +152,7 @@ fn name_in(value: &Value, player: Player) -> Result<Option<Name>, OrderFault> {
     }
 }
 
-/// Adds why an object orders no match.
+/// Adds the reason why an object orders no match.
 fn put_fault(line: &mut Vec<u8>, fault: OrderFault) -> Result<(), AllocError> {
     match fault {
         OrderFault::Length => put_text(line, "\"length\" is a whole number from 1 to 99\n"),
@@ -168,7 +168,7 @@ fn put_fault(line: &mut Vec<u8>, fault: OrderFault) -> Result<(), AllocError> {
     }
 }
 
-/// Returns why a name is refused.
+/// Returns the reason why a name is refused.
 fn words_of(fault: NameFault) -> &'static str {
     match fault {
         NameFault::Length => " is refused: a name has 1 to 64 bytes of UTF-8\n",

@@ -27,37 +27,37 @@ pub(crate) struct Place<K> {
     pub(crate) names: Names,
     pub(crate) terms: Terms,
     seats: Option<Seats>,
-    /// The secret that its dice are made of, and its SHA-256, where that was told before the first
-    /// roll.
+    /// The secret from which its dice are made, and its SHA-256, if that was published before the
+    /// first roll.
     key: Secret,
     digest: Option<Digest>,
-    /// None where it has ended, and is read from the store.
+    /// The match in progress; `None` once it has ended, when its record is read from the store.
     hosted: Option<HostedMatch<K>>,
     pub(crate) summary: Summary,
     pub(crate) presence: Presence,
-    /// For how long nobody has acted.
+    /// How long nobody has acted.
     pub(crate) quiet: Quiet,
     seat_changes: SeatChanges,
-    /// Whether lists leave it out.
+    /// Whether lists leave the match out.
     pub(crate) is_hidden: bool,
-    /// Whether the operator has deleted it. Its place stays, as peers are known by the numbers of
-    /// places.
+    /// Whether the operator has deleted it. It keeps its index, because peers refer to matches by
+    /// index.
     pub(crate) is_gone: bool,
-    /// How often something became visible; from 1.
+    /// Counts how often something became visible, from 1.
     pub(crate) version: u64,
-    /// How often someone came or left; from 1.
+    /// Counts how often a peer came or left, from 1.
     pub(crate) comings: u64,
-    /// Where it stands among the news of all matches.
+    /// The number of its latest change, among the changes of all matches.
     pub(crate) news: u64,
-    /// The frames of this version, as far as they were asked for.
+    /// The frames of this version that have been asked for so far.
     pub(crate) frames: Frames,
 }
 
 impl<K: Keeper + Drop> Place<K> {
     ghost use Rattle.bg_site.specs.Places.{player_in, secret_in, told_in};
 
-    /// Opens the place of a match that goes on from what its keepers have. Returns None where there
-    /// is no memory for it.
+    /// Opens a match, which continues from what its keepers have. Returns `None` if it can't begin,
+    /// for instance for lack of memory.
     pub(crate) fn open(alloc: Global, found: Found<K>, news: u64, now: u64) -> Option<Place<K>> {
         let Found {
             name,
@@ -97,7 +97,7 @@ impl<K: Keeper + Drop> Place<K> {
         Some(place)
     }
 
-    /// Takes in what the operator has changed.
+    /// Applies an operator's change.
     pub(crate) fn change(&mut self, changed: Changed)
         ensures { self.new.seats ≡ changed.seats }
     {
@@ -107,9 +107,9 @@ impl<K: Keeper + Drop> Place<K> {
         self.is_hidden = changed.is_hidden;
     }
 
-    /// Takes in what others have made of the match: it goes on from what its keepers have now, and
-    /// all that is shown of it is shown anew. Returns false where there is no memory for that: then
-    /// nothing changes.
+    /// Applies what other servers have done in the match: it continues from what its keepers have
+    /// now, and its peers are sent its state again. Returns false if there is no memory for that;
+    /// then nothing changes.
     pub(crate) fn replace(&mut self, alloc: Global, found: Found<K>) -> bool
         ensures taken { IsTrue result → self.new.seats ≡ found.seats }
         ensures kept { IsTrue result ⊎ (self.new ≡ self.old) }
@@ -141,7 +141,8 @@ impl<K: Keeper + Drop> Place<K> {
         true
     }
 
-    /// Has all that is shown of the match shown anew.
+    /// Updates all that is shown of the match, and begins a new version, so that peers are sent its
+    /// state again.
     fn show_anew(&mut self)
         ensures { self.new.seats ≡ self.old.seats }
     {
@@ -151,7 +152,7 @@ impl<K: Keeper + Drop> Place<K> {
         self.frames = Frames::none();
     }
 
-    /// Lets go of the match, which the operator has deleted: nobody has a seat of it any more.
+    /// Removes the match, which the operator has deleted. Nobody has a seat in it any more.
     pub(crate) fn remove(&mut self)
         ensures { self.new.seats ≡ None }
     {
@@ -163,7 +164,7 @@ impl<K: Keeper + Drop> Place<K> {
         self.names = Names::none();
     }
 
-    /// Returns how often the link of a player's seat was made anew.
+    /// Returns how often the link of a player's seat has been replaced.
     pub(crate) fn seat_changes_of(&self, player: Player) -> u64 {
         match player {
             Player::X => self.seat_changes.x,
@@ -171,7 +172,8 @@ impl<K: Keeper + Drop> Place<K> {
         }
     }
 
-    /// Returns whether a peer who looks at the match may go on to do so, and has his seat still.
+    /// Returns whether a peer of the match may stay: the match is not deleted, and the peer's seat,
+    /// if it has one, still has the same link.
     pub(crate) fn has_room_for(&self, peer: &Peer) -> bool {
         let has_seat = match peer.seat {
             Some(player) => peer.seat_changes == self.seat_changes_of(player),
@@ -180,7 +182,7 @@ impl<K: Keeper + Drop> Place<K> {
         has_seat && !self.is_gone
     }
 
-    /// Returns the player whose seat has a secret of this digest.
+    /// Returns the player whose seat has a secret with this digest.
     pub(crate) fn player_of(&self, digest: &Digest) -> Option<Player>
         ensures { result ≡ player_in self.now.seats digest.now }
     {
@@ -190,14 +192,14 @@ impl<K: Keeper + Drop> Place<K> {
         }
     }
 
-    /// Returns the SHA-256 of the secret of its dice, where that was told before the first roll.
+    /// Returns the SHA-256 of the secret of its dice, if that was published before the first roll.
     pub(crate) fn digest_told(&self) -> &Option<Digest>
         ensures { result.now ≡ self.now.digest }
     {
         &self.digest
     }
 
-    /// Returns the secret of its dice, once the match has ended: before that nobody is told it.
+    /// Returns the secret of its dice once the match has ended. Before that, nobody is told it.
     pub(crate) fn secret(&self) -> Option<&Secret>
         ensures { option_copied result ≡ secret_in self.now }
     {
@@ -207,7 +209,7 @@ impl<K: Keeper + Drop> Place<K> {
         }
     }
 
-    /// Returns the record that everybody may see, while the match goes on.
+    /// Returns the record that everybody may see, while the match is in progress.
     pub(crate) fn held(&self) -> Option<&Record>
         ensures { option_copied result ≡ told_in K.Keeper self.now.hosted }
     {
@@ -217,7 +219,7 @@ impl<K: Keeper + Drop> Place<K> {
         }
     }
 
-    /// Returns whether the match goes on.
+    /// Returns whether the match is in progress.
     pub(crate) fn is_live(&self) -> bool
         ensures { IsTrue result ↔ IsSome self.now.hosted }
     {

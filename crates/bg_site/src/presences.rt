@@ -1,8 +1,8 @@
-//! Who looks at a match.
+//! The peers that are connected to a match.
 
 use bg_board::Player;
 
-/// How many peers look at a match.
+/// The numbers of peers that are connected to a match.
 #[derive(Clone, Copy)]
 pub(crate) struct Presence {
     pub(crate) x: u32,
@@ -11,14 +11,14 @@ pub(crate) struct Presence {
 }
 
 impl Presence {
-    /// Nobody.
+    /// No peers.
     pub(crate) const NOBODY: Presence = Presence {
         x: 0,
         o: 0,
         watching: 0,
     };
 
-    /// Returns the presence after one more has come who has this seat, or none.
+    /// Returns the presence after a peer with this seat, or a watcher, has come.
     pub(crate) fn come(self, seat: Option<Player>) -> Presence {
         match seat {
             None => Presence {
@@ -36,7 +36,7 @@ impl Presence {
         }
     }
 
-    /// Returns the presence after one has left who had this seat, or none.
+    /// Returns the presence after a peer with this seat, or a watcher, has left.
     pub(crate) fn leave(self, seat: Option<Player>) -> Presence {
         match seat {
             None => Presence {

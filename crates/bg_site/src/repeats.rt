@@ -1,22 +1,23 @@
-//! Requests that make a match: one that is sent again, since no answer came, makes no other match.
+//! Repeats of requests that make a match. A request that is sent again because no answer came makes
+//! no other match.
 
 use bg_requests::{Digest, digest_of};
 use std::alloc::{AllocError, Global};
 
-/// So many answers are remembered.
+/// The number of answers that are remembered.
 const MOST_REMEMBERED: usize = 256;
 
-/// A key has at least so many characters, as whoever guesses it is told the links of seats.
+/// The minimum length of a key, in bytes. Whoever guesses a key is told the links of the seats.
 const LEAST_KEY: usize = 16;
 
-/// What the request of a key was answered.
+/// The answer to the request with a key.
 #[derive(Drop)]
 struct Answered {
     key: Digest,
     text: Vec<u8>,
 }
 
-/// The newest answers to requests that have made a match, and had a key.
+/// The newest answers to requests that made a match and had a key.
 #[derive(Drop)]
 pub(crate) struct Repeats {
     alloc: Global,
@@ -24,7 +25,7 @@ pub(crate) struct Repeats {
 }
 
 impl Repeats {
-    /// Remembers nothing.
+    /// Returns an empty list: no answer is remembered.
     pub(crate) fn none(alloc: Global) -> Repeats {
         Repeats {
             alloc,
@@ -32,10 +33,10 @@ impl Repeats {
         }
     }
 
-    /// Returns what the request of this key was answered, if there was one.
+    /// Returns the answer to the request that had this key, if there was one.
     ///
     /// # Errors
-    /// AllocError where there is no memory for it.
+    /// `AllocError` if memory runs out.
     pub(crate) fn answer_to(&self, key: &str) -> Result<Option<Vec<u8>>, AllocError> {
         let key = digest_of(key);
         for answered in self.answers.iter() {
@@ -46,11 +47,11 @@ impl Repeats {
         Ok(None)
     }
 
-    /// Remembers what the request of a key was answered, and forgets the oldest answer where there
-    /// are too many. A key that may be guessed is passed over.
+    /// Remembers the answer to the request with this key, and forgets the oldest answer if there
+    /// are too many. Ignores a key that is so short that it might be guessed.
     ///
     /// # Errors
-    /// AllocError where there is no memory for it.
+    /// `AllocError` if memory runs out.
     pub(crate) fn note(&mut self, key: &str, text: &[u8]) -> Result<(), AllocError> {
         if key.len() < LEAST_KEY {
             return Ok(());

@@ -3,7 +3,7 @@
 use bytes::Bytes;
 use http::Request;
 
-/// Returns the value of a header, as text.
+/// Returns the value of a header as text, if it has one that is UTF-8.
 pub(crate) fn header_of<'a>(request: &'a Request<Bytes>, name: &str) -> Option<&'a str> {
     let value = request.headers().get(name)?;
     match str::from_utf8(value.as_bytes()) {
@@ -12,7 +12,8 @@ pub(crate) fn header_of<'a>(request: &'a Request<Bytes>, name: &str) -> Option<&
     }
 }
 
-/// Returns whether the body is said to be JSON: no page of another site can send that unasked.
+/// Returns whether the header says that the body is JSON. A page of another site can't send that
+/// without asking this server first.
 pub(crate) fn is_json(request: &Request<Bytes>) -> bool {
     match header_of(request, "content-type") {
         Some(kind) => kind == "application/json" || kind.starts_with("application/json;"),
@@ -20,7 +21,8 @@ pub(crate) fn is_json(request: &Request<Bytes>) -> bool {
     }
 }
 
-/// Returns whether a browser sent it from a page of this server, or no browser did.
+/// Returns whether a request comes from a page of this server, or from no browser, as its `origin`
+/// says.
 pub(crate) fn is_own_origin(request: &Request<Bytes>) -> bool {
     if request.headers().get("origin").is_none() {
         return true;
@@ -35,17 +37,17 @@ pub(crate) fn is_own_origin(request: &Request<Bytes>) -> bool {
     }
 }
 
-/// Returns the secret of `authorization: Bearer SECRET`.
+/// Returns the secret in `authorization: Bearer SECRET`.
 pub(crate) fn bearer_of(request: &Request<Bytes>) -> Option<&str> {
     header_of(request, "authorization")?.strip_prefix("Bearer ")
 }
 
-/// Returns the key of `idempotency-key: KEY`: a repeat of the request has the same.
+/// Returns the key in `idempotency-key: KEY`. A repeat of the request has the same key.
 pub(crate) fn key_of(request: &Request<Bytes>) -> Option<&str> {
     header_of(request, "idempotency-key")
 }
 
-/// Returns whether a request asks for a WebSocket, and for the version that is spoken.
+/// Returns whether a request asks for a WebSocket of the supported version.
 pub(crate) fn asks_for_socket(request: &Request<Bytes>) -> bool {
     let upgrade = header_of(request, "upgrade").unwrap_or("");
     let version = header_of(request, "sec-websocket-version").unwrap_or("");
@@ -54,7 +56,7 @@ pub(crate) fn asks_for_socket(request: &Request<Bytes>) -> bool {
         && version == "13"
 }
 
-/// Returns the value of a part of a query.
+/// Returns the value of a query parameter, as it is encoded.
 pub(crate) fn query_part<'a>(query: Option<&'a str>, name: &str) -> Option<&'a str> {
     for part in query?.split('&') {
         if let Some((key, value)) = part.split_once('=') {

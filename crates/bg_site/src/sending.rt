@@ -1,4 +1,4 @@
-//! The frames that a peer gets by its socket.
+//! The frames that are sent to a peer.
 ghost use Rattle.std.specs.Prelude.{◌≡◌, ℕ, Some};
 
 use crate::files::{Asked, Given};
@@ -15,13 +15,13 @@ use std::alloc::AllocError;
 impl<K: Keeper + Drop, S: Store<K> + Drop> Site<K, S> {
     ghost use Rattle.bg_site.specs.Places.{ChangesOnly};
 
-    /// Returns who the connection is that the last request upgraded, if it did so. Ask this before
-    /// another connection goes on.
+    /// Returns the peer of the connection that the last request upgraded, if it upgraded one. Call
+    /// this before another connection is advanced.
     pub fn take_upgraded(&mut self) -> Option<Peer> {
         self.upgraded.take()
     }
 
-    /// Notes that a connection has become a socket.
+    /// Notes that a connection has become a WebSocket.
     pub fn begin_socket(&mut self, peer: &Peer)
         ensures { (place : ℕ) → peer.now.place ≡ Some place
             → ChangesOnly self.old.places.items self.new.places.items place }
@@ -30,7 +30,7 @@ impl<K: Keeper + Drop, S: Store<K> + Drop> Site<K, S> {
         self.come(peer);
     }
 
-    /// Notes that a socket has ended.
+    /// Notes that a WebSocket has ended.
     pub fn end_socket(&mut self, peer: &Peer)
         ensures { (place : ℕ) → peer.now.place ≡ Some place
             → ChangesOnly self.old.places.items self.new.places.items place }
@@ -39,7 +39,7 @@ impl<K: Keeper + Drop, S: Store<K> + Drop> Site<K, S> {
         self.leave(peer);
     }
 
-    /// Notes that a peer has come, as its socket begins.
+    /// Notes that a peer has come to its match, if it is connected to one.
     #[tactic(auto, using(crate::proofs::Others::other_stays))]
     pub fn come(&mut self, peer: &Peer)
         ensures { (place : ℕ) → peer.now.place ≡ Some place
@@ -54,7 +54,7 @@ impl<K: Keeper + Drop, S: Store<K> + Drop> Site<K, S> {
         }
     }
 
-    /// Notes that a peer has left, as its socket ends.
+    /// Notes that a peer has left its match, if it was connected to one.
     #[tactic(auto, using(crate::proofs::Others::other_stays))]
     pub fn leave(&mut self, peer: &Peer)
         ensures { (place : ℕ) → peer.now.place ≡ Some place
@@ -71,10 +71,11 @@ impl<K: Keeper + Drop, S: Store<K> + Drop> Site<K, S> {
         let _ = self.note_news();
     }
 
-    /// Returns the next frame that a peer lacks, and notes that it has it; None if it lacks none.
+    /// Returns the next frame that a peer lacks, and notes that the peer has it. Returns `None` if
+    /// it lacks none.
     ///
     /// # Errors
-    /// AllocError where there is no memory for it.
+    /// `AllocError` if memory runs out.
     pub fn next_frame(&mut self, peer: &mut Peer) -> Result<Option<Bytes>, AllocError> {
         let Some(index) = peer.place else {
             return Ok(None);
@@ -107,8 +108,8 @@ impl<K: Keeper + Drop, S: Store<K> + Drop> Site<K, S> {
         Ok(None)
     }
 
-    /// Returns the frame of the state of a match, for those who watch or for a player; None where
-    /// it can't be read. It is made once for each version.
+    /// Returns the frame of the state of a match, for a player or for watchers. Returns `None` if
+    /// the match can't be read. The frame is made once for each version.
     fn state_frame(
         &mut self,
         index: usize,

@@ -17,41 +17,42 @@ use bg_requests::{Digest, digest_of};
 use bg_world::Keeper;
 use std::alloc::Global;
 
-/// The most matches that a server has, live and finished.
+/// The most matches that a server can have, live and finished.
 pub const MOST_MATCHES: usize = 10_000;
 
-/// All matches, the store that keeps them, and what is known of the request at hand.
+/// All matches, the store that keeps them, and what is known about the current request.
 #[derive(Drop)]
 pub struct Site<K, S> {
     pub(crate) alloc: Global,
     pub(crate) store: S,
     pub(crate) places: Vec<Place<K>>,
-    /// Who the connection is that the last request upgraded.
+    /// The peer of the connection that the last request upgraded.
     pub(crate) upgraded: Option<Peer>,
-    /// Whose the connection is that the request at hand came on.
+    /// The client of the connection that the current request came on.
     pub(crate) caller: Caller,
-    /// Whether the request at hand may make a match.
+    /// Whether the current request may make a match.
     pub(crate) may_make: bool,
-    /// What the clients of each address have.
+    /// What the clients of each address have open and have made.
     pub(crate) addresses: Addresses,
-    /// What requests that have made a match were answered.
+    /// The answers to requests that have made a match.
     pub(crate) repeats: Repeats,
-    /// The minute, as the host counts them, and for how long a match without an action is live.
+    /// The current minute, as the host counts minutes, and how long a match without an action stays
+    /// live.
     pub(crate) patience: Patience,
-    /// How much news there was.
+    /// The number of changes so far.
     news: u64,
-    /// Of it, how much the host has asked for.
+    /// The number of changes when the host last asked.
     asked: u64,
-    /// What was counted.
+    /// The counters.
     pub(crate) counts: Counts,
-    /// The lines of requests that the host has not taken yet, where a log is kept.
+    /// The lines of requests that the host has not taken yet; `None` if no log is kept.
     pub(crate) log: Option<String>,
 }
 
 impl<K: Keeper + Drop, S: Store<K> + Drop> Site<K, S> {
     ghost use Rattle.bg_site.specs.Places.{ChangesOnly, HasSeatAt};
 
-    /// Creates a server without matches.
+    /// Creates a site without matches.
     pub fn new(alloc: Global, store: S) -> Site<K, S> {
         Site {
             alloc,
@@ -70,7 +71,7 @@ impl<K: Keeper + Drop, S: Store<K> + Drop> Site<K, S> {
         }
     }
 
-    /// Takes a match in; returns whether there was room and memory for it.
+    /// Adds a match. Returns whether there was room and memory for it.
     pub fn open(&mut self, found: Found<K>) -> bool {
         if self.places.len() >= MOST_MATCHES {
             return false;
@@ -82,7 +83,7 @@ impl<K: Keeper + Drop, S: Store<K> + Drop> Site<K, S> {
         }
     }
 
-    /// Takes a match in that a request has made; returns whether there was room and memory for it.
+    /// Adds a match that a request has made. Returns whether there was room and memory for it.
     pub(crate) fn open_made(&mut self, found: Found<K>) -> bool {
         let is_open = self.open(found);
         if is_open {
@@ -91,56 +92,56 @@ impl<K: Keeper + Drop, S: Store<K> + Drop> Site<K, S> {
         is_open
     }
 
-    /// Returns the storage of the matches.
+    /// Returns the store of the matches.
     pub fn store(&self) -> &S {
         &self.store
     }
 
-    /// Returns the number of matches.
+    /// Returns the number of matches, including those that have been deleted.
     pub fn len(&self) -> usize {
         self.places.len()
     }
 
-    /// Returns whether there is none.
+    /// Returns whether there are no matches.
     pub fn is_empty(&self) -> bool {
         self.places.is_empty()
     }
 
-    /// Says whether the requests that are handed in next may make matches.
+    /// Sets whether the requests that are handed in next may make matches.
     pub fn allow_making(&mut self, may_make: bool) {
         self.may_make = may_make;
     }
 
-    /// Says which minute it is, counted from when the server began: matches that an address makes
-    /// are counted in each.
+    /// Sets the current minute, counted from the start of the server. The matches that an address
+    /// makes are counted for each minute.
     pub fn begin_minute(&mut self, minute: u64) {
         self.patience.now = minute;
         self.addresses.begin_minute(minute);
     }
 
-    /// Returns how many matches were made by requests.
+    /// Returns the number of matches made by requests.
     pub fn made(&self) -> u64 {
         self.counts.made
     }
 
-    /// Returns how many matches have ended while they were served.
+    /// Returns the number of matches that have ended while they were served.
     pub fn ended(&self) -> u64 {
         self.counts.ended
     }
 
-    /// Notes how many connections there are.
+    /// Sets the current number of connections.
     pub fn note_connections(&mut self, count: u64) {
         self.counts.connections = count;
     }
 
-    /// Returns whether there was news since the last call.
+    /// Returns whether anything has changed since the last call.
     pub fn has_news(&mut self) -> bool {
         let has_news = self.news != self.asked;
         self.asked = self.news;
         has_news
     }
 
-    /// Returns whether a match has something left to do on a tick.
+    /// Returns whether any match has something left to do on a tick.
     pub fn is_restless(&self) -> bool {
         for place in self.places.iter() {
             if place.is_restless() && !place.is_still(&self.store) {
@@ -150,7 +151,7 @@ impl<K: Keeper + Drop, S: Store<K> + Drop> Site<K, S> {
         false
     }
 
-    /// Lets the matches tick that have something left to do.
+    /// Ticks the matches that have something left to do.
     pub fn tick(&mut self) {
         let (mut news, minute) = (self.news, self.patience.now);
         for place in self.places.iter_mut() {
@@ -166,7 +167,7 @@ impl<K: Keeper + Drop, S: Store<K> + Drop> Site<K, S> {
         self.news = news;
     }
 
-    /// Counts news, and returns how much there was.
+    /// Counts a change, and returns the number of changes so far.
     pub(crate) fn note_news(&mut self) -> u64
         ensures { self.new.places ≡ self.old.places }
     {
@@ -174,7 +175,7 @@ impl<K: Keeper + Drop, S: Store<K> + Drop> Site<K, S> {
         self.news
     }
 
-    /// Returns the place of the match with this name.
+    /// Returns the index of the match with this name, unless it has been deleted.
     pub(crate) fn by_name(&self, name: &str) -> Option<usize> {
         for (index, place) in self.places.iter().enumerate() {
             if place.name.as_str() == name && !place.is_gone {
@@ -184,8 +185,8 @@ impl<K: Keeper + Drop, S: Store<K> + Drop> Site<K, S> {
         None
     }
 
-    /// Returns the match and the player whose seat has this secret. Each match is compared, so that
-    /// the time tells nothing.
+    /// Returns the index of the match, and the player, whose seat has this secret. Every match is
+    /// compared, so that the time taken reveals nothing.
     pub(crate) fn by_secret(&self, secret: &str) -> Option<(usize, Player)>
         ensures { IfSome result (λ seat. HasSeatAt self.now.places.items (sha256 secret.now) seat.0 seat.1) }
     {
@@ -199,7 +200,7 @@ impl<K: Keeper + Drop, S: Store<K> + Drop> Site<K, S> {
         found
     }
 
-    /// Returns the player whose seat, in the match at this place, has a secret of this digest.
+    /// Returns the player whose seat, in the match at this index, has a secret with this digest.
     fn player_at(&self, index: usize, digest: &Digest) -> Option<Player>
         ensures { IfSome result (λ player. HasSeatAt self.now.places.items digest.now index player) }
     {
@@ -209,7 +210,8 @@ impl<K: Keeper + Drop, S: Store<K> + Drop> Site<K, S> {
         }
     }
 
-    /// Returns how often the link of a player's seat, in the match at this place, was made anew.
+    /// Returns how often the link of a player's seat, in the match at this index, has been
+    /// replaced.
     pub(crate) fn seat_changes_at(&self, index: usize, player: Player) -> u64 {
         match self.places.get(index) {
             Some(place) => place.seat_changes_of(player),
@@ -217,7 +219,7 @@ impl<K: Keeper + Drop, S: Store<K> + Drop> Site<K, S> {
         }
     }
 
-    /// Lets a player of a match act.
+    /// Carries out a player's action in the match at this index.
     #[tactic(auto, using(crate::proofs::Others::other_stays))]
     pub(crate) fn act(
         &mut self,

@@ -1,4 +1,4 @@
-//! Requests for a socket.
+//! Requests for a WebSocket.
 
 use crate::addresses::address_of;
 use crate::peers::Peer;
@@ -18,7 +18,8 @@ use std::alloc::{AllocError, Global};
 use websocket::handshake::server::accept_key;
 
 impl<K: Keeper + Drop, S: Store<K> + Drop> Site<K, S> {
-    /// Gives a socket to a watcher of a match, or to a peer that is to say whose seat it has.
+    /// Upgrades a connection to a WebSocket, for a watcher of a match, or for a peer that has yet
+    /// to send the secret of its seat.
     pub(crate) fn upgrade(
         &mut self,
         request: &Request<Bytes>,
@@ -59,7 +60,7 @@ impl<K: Keeper + Drop, S: Store<K> + Drop> Site<K, S> {
     }
 }
 
-/// Returns a peer that watches a match, or is to say whose seat it has.
+/// Returns a watcher of a match, or a peer that has yet to send the secret of its seat.
 fn peer_at(place: Option<usize>) -> Peer {
     match place {
         Some(index) => Peer::watching(index),
@@ -67,7 +68,7 @@ fn peer_at(place: Option<usize>) -> Peer {
     }
 }
 
-/// Returns the key that answers that of a request, if it has one.
+/// Returns the accept key that answers the key of a request, if the request has a valid one.
 fn key_for(request: &Request<Bytes>) -> Option<[u8; 28]> {
     let value = request.headers().get(SEC_WEBSOCKET_KEY)?;
     match accept_key(value.as_bytes()) {
@@ -76,7 +77,7 @@ fn key_for(request: &Request<Bytes>) -> Option<[u8; 28]> {
     }
 }
 
-/// Answers that nothing but a WebSocket is given here.
+/// Answers that this path is only for WebSockets.
 fn refuse_others(response: &mut Response) -> Result<(), AllocError> {
     response.add_header(UPGRADE, HeaderValue::from_static("websocket"))?;
     response.add_header(SEC_WEBSOCKET_VERSION, HeaderValue::from_static("13"))?;

@@ -1,4 +1,4 @@
-//! What keeps the matches of a server: a folder for each, a database, or what the host likes.
+//! The store of a server's matches: a folder for each, a database, or whatever the host chooses.
 
 use bg_dice::Secret;
 use bg_match::{Record, Terms};
@@ -6,30 +6,30 @@ use bg_requests::{Digest, Seats};
 use bg_system::Names;
 use bg_world::Keepers;
 
-/// The name of a match: that of its folder.
+/// The name of a match, which is that of its folder.
 pub type MatchName = String;
 
-/// A match that the host has found, or made.
+/// A match that the host has found or made.
 #[derive(Drop)]
 pub struct Found<K> {
     pub name: MatchName,
     pub names: Names,
     pub id: u64,
     pub terms: Terms,
-    /// None where nobody may play it here.
+    /// `None` if nobody may play the match here.
     pub seats: Option<Seats>,
-    /// The secret that its dice are made of.
+    /// The secret from which its dice are made.
     pub key: Secret,
-    /// Its SHA-256, where that was told before the first roll.
+    /// The SHA-256 of that secret, if it was published before the first roll.
     pub digest: Option<Digest>,
     pub keepers: Keepers<K>,
-    /// Whether lists leave it out.
+    /// Whether lists leave the match out.
     pub is_hidden: bool,
-    /// For how many minutes nobody has acted in it.
+    /// The number of minutes for which nobody has acted in it.
     pub quiet_minutes: u64,
 }
 
-/// A match that the host has made, and the secrets of its seats, which nothing keeps.
+/// A match that the host has made, and the secrets of its seats, which are stored nowhere.
 #[derive(Drop)]
 pub struct Made<K> {
     pub found: Found<K>,
@@ -37,19 +37,19 @@ pub struct Made<K> {
     pub o: String,
 }
 
-/// What was counted of the saves of all matches.
+/// The counters of the saves of all matches.
 #[derive(Clone, Copy)]
 pub struct Saves {
-    /// How many were written through.
+    /// The number of saves that were made durable.
     pub done: u64,
-    /// How many failed.
+    /// The number of saves that failed.
     pub failed: u64,
-    /// How many microseconds they took, each with its sync.
+    /// The time that the saves took, with their syncs, in microseconds.
     pub micros: u64,
 }
 
 impl Saves {
-    /// Nothing was counted.
+    /// The counters at the start: all are 0.
     pub const NONE: Saves = Saves {
         done: 0,
         failed: 0,
@@ -57,20 +57,20 @@ impl Saves {
     };
 }
 
-/// The storage of the matches.
+/// The store of the matches.
 pub trait Store<K> {
-    /// Makes a match, and has it written through. Returns None where that failed.
+    /// Makes a match durably. Returns `None` if that fails.
     fn make(&mut self, terms: Terms, names: Names) -> Option<Made<K>>;
 
-    /// Reads the record of a match that has ended. Returns None where that failed.
+    /// Reads the record of a match that has ended. Returns `None` if that fails.
     fn load(&self, name: &str) -> Option<Record>;
 
-    /// Returns what was counted of the saves of all matches, where that is known.
+    /// Returns the counters of the saves of all matches, if they are known.
     fn saves(&self) -> Saves {
         Saves::NONE
     }
 
-    /// Returns whether nothing more of a match is saved, since it is too long.
+    /// Returns whether a match is too long for more of it to be saved.
     fn is_full(&self, _name: &str) -> bool {
         false
     }

@@ -1,9 +1,9 @@
-//! What is told of a match in lists.
+//! What lists show of a match.
 
 use bg_board::Player;
 use bg_match::{Number, Phase, Record};
 
-/// What is told of a match in lists.
+/// What lists show of a match.
 #[derive(Clone, Copy)]
 pub(crate) struct Summary {
     pub(crate) entries: Number,
@@ -13,7 +13,7 @@ pub(crate) struct Summary {
 }
 
 impl Summary {
-    /// Describes a match with no entry.
+    /// The summary of a match without entries.
     pub(crate) const NONE: Summary = Summary {
         entries: 0,
         score: (0, 0),
@@ -21,7 +21,7 @@ impl Summary {
         winner: None,
     };
 
-    /// Describes a match with a record.
+    /// Returns the summary of a match with this record.
     pub(crate) fn of(record: &Record) -> Summary {
         let standing = record.standing();
         Summary {

@@ -25,7 +25,8 @@ pub(crate) fn put_last(out: &mut Vec<u8>, log: &Record) -> Result<(), AllocError
     Ok(())
 }
 
-/// Adds the lines of `count` entries, from that of this number on, with commas between them.
+/// Adds the lines of `count` entries, starting with the entry of this number, with commas between
+/// them.
 ///
 /// `first` says whether the first of these lines is also the first of the list, which no comma
 /// precedes.

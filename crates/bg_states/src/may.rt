@@ -48,7 +48,7 @@ fn put_offers(out: &mut Vec<u8>, offers: Offers) -> Result<(), AllocError>
 
 /// Adds the word if its action is offered.
 ///
-/// `first` says whether no word has been added before. Returns the same for the next word.
+/// `first` says whether no word has been added before. Returns what `first` is for the next word.
 fn put_word(
     out: &mut Vec<u8>,
     first: bool,

@@ -1,4 +1,4 @@
-//! Copies of matches: whole ones, also of a match that is played meanwhile.
+//! Copies of whole matches, even while they are being played.
 
 use bg_console::path_in;
 use bg_processes::{MatchFile, read_saved};
@@ -8,26 +8,27 @@ use std::io::{ErrorKind, Write};
 use std::os::unix::fs::{DirBuilderExt, OpenOptionsExt};
 use std::{fs, io};
 
-/// A folder, and a file, for their owner alone.
+/// The mode of a new folder, which only its owner can use.
 const FOLDER: u32 = 0o700;
 
+/// The mode of a new file, which only its owner can use.
 const FILE: u32 = 0o600;
 
-/// So often a match is copied until its copy is whole.
+/// How many times a match is copied at most until its copy is whole.
 const MOST_COPIES: u32 = 100;
 
-/// The slots of each party that saves.
+/// The parties that save, each with the names of its two slots.
 const SLOTS: [(u8, &str, &str); 3] = [
     (REFEREE, "party-0.0", "party-0.1"),
     (SEAT_OF_X, "party-1.0", "party-1.1"),
     (SEAT_OF_O, "party-2.0", "party-2.1"),
 ];
 
-/// Copies the folder of a match into a new one. The match may go on meanwhile: then it is copied
-/// until the copy can be restored.
+/// Copies the folder of a match into a new folder. The match may continue meanwhile: copying is
+/// repeated until the copy can be restored.
 ///
 /// # Errors
-/// Why it could not be copied; `Interrupted` where no copy was whole.
+/// The reason why the match can't be copied; `Interrupted` if no copy was whole.
 pub fn copy_match(rt: &HostRuntime, from: &str, to: &str) -> io::Result<()> {
     DirBuilder::new().mode(FOLDER).create(rt, to)?;
     for _ in 0..MOST_COPIES {
@@ -39,8 +40,8 @@ pub fn copy_match(rt: &HostRuntime, from: &str, to: &str) -> io::Result<()> {
     Err(io::Error::from(ErrorKind::Interrupted))
 }
 
-/// Copies the files of a folder, the slots of seats before those of the referee: so the copy of the
-/// referee has whatever that of a seat has.
+/// Copies the files of a folder. The slots of seats are copied before those of the referee, so that
+/// the referee's copy has everything that a seat's copy has.
 fn copy_files(rt: &HostRuntime, from: &str, to: &str) -> io::Result<()> {
     let mut names = Vec::new(rt.alloc());
     for entry in fs::read_dir(rt, from)? {
@@ -90,7 +91,7 @@ fn is_whole(rt: &HostRuntime, folder: &str) -> io::Result<bool> {
     Ok(true)
 }
 
-/// Returns how many entries a party has saved; None where its saves can't be restored.
+/// Returns the number of entries that a party has saved; `None` if its saves can't be restored.
 fn entries_of(
     rt: &HostRuntime,
     folder: &str,

@@ -1,40 +1,40 @@
-//! Files whose newest texts are durable in the database, while they themselves may be older.
+//! Files whose newest texts are durable in the database, while the files themselves may be older.
 ghost use Rattle.std.specs.Prelude.{◌≤◌, length};
 
 use bg_journal::{Change, FileText, is_below};
 use std::alloc::{AllocError, Global};
 
-/// The newest text of each such file.
+/// The newest texts of the files that may be older than the database.
 #[derive(Drop)]
 pub struct Behind {
-    /// By their names, each once.
+    /// The files, sorted by name; each name occurs once.
     pub files: Vec<FileText>,
 }
 
 impl Behind {
-    /// Says of no file that it is behind.
+    /// Creates a `Behind` without files.
     pub fn new(alloc: Global) -> Behind {
         Behind {
             files: Vec::new(alloc),
         }
     }
 
-    /// Makes room for so many files more.
+    /// Reserves room for `files` more files.
     ///
     /// # Errors
-    /// `AllocError` where there is no memory for them.
+    /// `AllocError` if memory runs out.
     pub fn reserve(&mut self, files: usize) -> Result<(), AllocError> {
         self.files.reserve(files)
     }
 
-    /// Returns where a file is, or would be.
+    /// Returns the index of a file, or the index at which it would be inserted.
     fn place_of(&self, name: &str) -> usize
         ensures { result ≤ length self.now.files.items }
     {
         self.files.partition_point(|file| file.name.as_str() < name)
     }
 
-    /// Returns the newest text of a file that is behind.
+    /// Returns the newest text of a file; `None` if the file isn't behind.
     pub fn text_of(&self, name: &str) -> Option<&[u8]> {
         match self.files.get(self.place_of(name)) {
             Some(file) if file.name.as_str() == name => Some(&file.text),
@@ -42,7 +42,7 @@ impl Behind {
         }
     }
 
-    /// Notes a change that is durable, for which there is room.
+    /// Notes a change that is durable. Room for it must have been reserved.
     pub fn note(&mut self, change: Change) {
         match change {
             Change::Put(file) => self.put(file),
@@ -52,7 +52,7 @@ impl Behind {
         }
     }
 
-    /// Notes that a file is gone.
+    /// Notes that a file no longer exists.
     pub fn forget(&mut self, name: &str) {
         self.files.retain(|file| file.name.as_str() != name);
     }

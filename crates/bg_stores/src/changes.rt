@@ -1,7 +1,7 @@
-//! What an operator changes while the server runs. Each match that was changed has an empty file of
-//! its name in a folder of its own, the mark. The server looks there once a second, gives the mark
-//! another name, and reads the match anew. Once what it has read is saved, it removes the mark: so
-//! after a kill the next server does that again.
+//! Changes that an operator makes while the server runs. Each changed match has a mark: an empty
+//! file with the name of the match, in a folder of marks. Once a second the server looks there,
+//! renames the marks that it finds, and reads their matches again. It removes a mark once it has
+//! saved what it read. So after a kill, the next server reads the match again.
 
 use bg_console::path_in;
 use mio::{Events, Poll};
@@ -12,26 +12,29 @@ use std::os::unix::fs::{DirBuilderExt, OpenOptionsExt};
 use std::time::Duration;
 use std::{fs, io};
 
-/// The name of that folder, within the folder of all matches. No match has a name with a dot.
+/// The name of the folder of marks, within the folder of all matches. No match has a name with a
+/// dot.
 const CHANGES: &str = ".changes";
 
-/// What the name of a mark ends with once the change was taken in. No match has a name with a dot.
+/// The suffix of a mark whose change has been taken in. No match has a name with a dot.
 const TAKEN: &str = ".taken";
 
-/// A folder, and a file, for their owner alone.
+/// The mode of a new folder, which only its owner can use.
 const FOLDER: u32 = 0o700;
 
+/// The mode of a new file, which only its owner can use.
 const FILE: u32 = 0o600;
 
-/// So often it is looked whether a change was taken, and so many milliseconds are between.
+/// The most checks whether a change is saved.
 const MOST_LOOKS: u32 = 100;
 
+/// The milliseconds between two checks.
 const BETWEEN_LOOKS: u64 = 50;
 
-/// Returns the names of the matches that were changed, and notes that they were taken in.
+/// Returns the names of the changed matches, and notes that their changes were taken in.
 ///
 /// # Errors
-/// Why they could not be read.
+/// The reason why the marks can't be read or renamed.
 pub fn take_changes(rt: &HostRuntime, tables: &str) -> io::Result<Vec<String>> {
     let folder = path_in(rt.alloc(), tables, CHANGES)?;
     let mut names: Vec<String> = Vec::new(rt.alloc());
@@ -48,7 +51,7 @@ pub fn take_changes(rt: &HostRuntime, tables: &str) -> io::Result<Vec<String>> {
     Ok(names)
 }
 
-/// Notes that the change of this mark was taken in; returns the name of its match.
+/// Renames a mark to note that its change was taken in. Returns the name of its match.
 fn take_change(rt: &HostRuntime, folder: &str, mark: &str) -> io::Result<String> {
     if let Some(name) = mark.strip_suffix(TAKEN) {
         return Ok(String::from_str(rt.alloc(), name)?);
@@ -59,49 +62,49 @@ fn take_change(rt: &HostRuntime, folder: &str, mark: &str) -> io::Result<String>
     Ok(String::from_str(rt.alloc(), mark)?)
 }
 
-/// Forgets a change that was taken in, since what was read then is saved.
+/// Forgets a change that was taken in, because what was read then is saved.
 ///
 /// # Errors
-/// Why its mark could not be removed: it will be taken in again.
+/// The reason why the mark can't be removed. The change will then be taken in again.
 pub fn forget_change(rt: &HostRuntime, tables: &str, name: &str) -> io::Result<()> {
     let taken = taken_path(rt.alloc(), tables, name)?;
     fs::remove_file(rt, taken.as_str())
 }
 
-/// Returns whether the operator has changed a match, and that was not taken in yet, or is not
-/// saved.
+/// Returns whether the operator has changed a match, and the change is not taken in or not saved
+/// yet.
 ///
 /// # Errors
-/// `OutOfMemory` alone.
+/// Only `OutOfMemory`, if memory runs out.
 pub fn is_changed(rt: &HostRuntime, tables: &str, name: &str) -> io::Result<bool> {
     let path = change_path(rt.alloc(), tables, name)?;
     let taken = taken_path(rt.alloc(), tables, name)?;
-    // The server gives the mark its other name: so that one is looked for last.
+    // The server may rename the mark meanwhile, so the new name is checked last.
     Ok(is_there(rt, path.as_str()) || is_there(rt, taken.as_str()))
 }
 
-/// Returns whether there is a file.
+/// Returns whether a file exists.
 fn is_there(rt: &HostRuntime, path: &str) -> bool {
     fs::metadata(rt, path).is_ok()
 }
 
-/// Returns the path of the file that says that a match was changed.
+/// Returns the path of the mark of a match.
 fn change_path(alloc: Global, tables: &str, name: &str) -> Result<String, AllocError> {
     let folder = path_in(alloc, tables, CHANGES)?;
     path_in(alloc, folder.as_str(), name)
 }
 
-/// Returns the path of that file once the change was taken in.
+/// Returns the path of the mark of a match once its change was taken in.
 fn taken_path(alloc: Global, tables: &str, name: &str) -> Result<String, AllocError> {
     let path = change_path(alloc, tables, name)?;
     format!(in alloc; "{}{TAKEN}", path.as_str())
 }
 
-/// Tells a server that a match was changed, and waits at most five seconds until it has saved that.
-/// Returns whether it has.
+/// Tells a server that a match was changed, and waits at most five seconds until the server has
+/// saved the change. Returns whether it has.
 ///
 /// # Errors
-/// Why it could not be told.
+/// The reason why the mark can't be made or checked.
 pub fn tell_change(rt: &HostRuntime, tables: &str, name: &str) -> io::Result<bool> {
     let folder = path_in(rt.alloc(), tables, CHANGES)?;
     DirBuilder::new()
@@ -117,7 +120,7 @@ pub fn tell_change(rt: &HostRuntime, tables: &str, name: &str) -> io::Result<boo
     is_saved(rt, tables, name)
 }
 
-/// Waits at most five seconds until a change is forgotten; returns whether it is.
+/// Waits at most five seconds until a change is forgotten. Returns whether it is.
 fn is_saved(rt: &HostRuntime, tables: &str, name: &str) -> io::Result<bool> {
     let (mut poll, mut events) = (Poll::new(rt)?, Events::with_capacity(rt.alloc(), 1)?);
     for _ in 0..MOST_LOOKS {

@@ -1,4 +1,4 @@
-//! The folder of a server that shares its matches: a copy of what the store has.
+//! The folder of a server that shares its matches, which is a copy of the store.
 
 use crate::changes::is_changed;
 use crate::followers::overwrite;
@@ -11,17 +11,17 @@ use std::io::ErrorKind;
 use std::os::unix::fs::DirBuilderExt;
 use std::{fs, io};
 
-/// A folder for its owner alone.
+/// The mode of a new folder, which only its owner can use.
 const FOLDER: u32 = 0o700;
 
-/// The file without which a folder is no match.
+/// The file that each match has: without it, a folder is not a match.
 pub const MATCH: &str = "match";
 
 /// The file that says who may play.
 const SEATS: &str = "seats";
 
-/// The file that says whether lists leave a match out. In the store it has a text; a folder has it,
-/// without a text, or has it not.
+/// The file that says whether lists leave a match out. In the store, its text is `yes` or `no`. A
+/// folder has an empty file if lists leave the match out, and no file otherwise.
 const HIDDEN: &str = "hidden";
 
 const YES: &str = "yes";
@@ -31,7 +31,7 @@ const NO: &str = "no";
 /// The files of a match that its parties don't write.
 pub const BESIDE_SLOTS: [&str; 5] = [MATCH, "secret", "dice", SEATS, HIDDEN];
 
-/// The files that its parties write.
+/// The files of a match that its parties write.
 pub const SLOTS: [&str; 6] = [
     "party-0.0",
     "party-0.1",
@@ -41,8 +41,8 @@ pub const SLOTS: [&str; 6] = [
     "party-2.1",
 ];
 
-/// Returns the name of the match and that of the file, where a name in the store is that of a file
-/// of a match.
+/// Splits a name in the store into the names of the match and of its file; `None` if it isn't the
+/// name of a file of a match.
 pub fn parts_of(name: &str) -> Option<(&str, &str)> {
     let (folder, file) = name.split_once('/')?;
     if is_name(folder) && (is_slot(file) || BESIDE_SLOTS.iter().any(|other| *other == file)) {
@@ -65,19 +65,19 @@ pub fn is_slot_name(name: &str) -> bool {
     }
 }
 
-/// The folder of all matches, where it is a copy.
+/// The folder of all matches, as a copy of the store.
 #[derive(Clone, Copy)]
 pub struct Copies<'a> {
     pub rt: &'a HostRuntime,
-    /// The path of that folder.
+    /// The path of the folder.
     pub folder: &'a str,
 }
 
 impl<'a> Copies<'a> {
-    /// Writes a file of a match, unless it has this text.
+    /// Writes a file of a match, unless it has this text already.
     ///
     /// # Errors
-    /// Why it could not be written.
+    /// The reason why the file can't be written.
     pub fn write(&self, folder: &str, file: &str, text: &[u8]) -> io::Result<()> {
         let alloc = self.rt.alloc();
         let above = path_in(alloc, self.folder, folder)?;
@@ -99,10 +99,10 @@ impl<'a> Copies<'a> {
         overwrite(self.rt, path.as_str(), text)
     }
 
-    /// Writes a file by its name in the store. What is no file of a match is passed over.
+    /// Writes a file by its name in the store. Ignores a name that isn't that of a file of a match.
     ///
     /// # Errors
-    /// Why it could not be written.
+    /// The reason why the file can't be written.
     pub fn write_named(&self, name: &str, text: &[u8]) -> io::Result<()> {
         match parts_of(name) {
             Some((folder, file)) => self.write(folder, file, text),
@@ -110,15 +110,15 @@ impl<'a> Copies<'a> {
         }
     }
 
-    /// Removes the folder of a match, if it is there. First it is given a name that no match has,
-    /// so that nothing is left of it where a kill comes.
+    /// Removes the folder of a match, if it exists. First renames it to a name that no match has,
+    /// so that a kill doesn't leave part of a match.
     ///
     /// # Errors
-    /// Why it could not be removed.
+    /// The reason why it can't be removed.
     pub fn remove(&self, folder: &str) -> io::Result<()> {
         let path = path_in(self.rt.alloc(), self.folder, folder)?;
         let gone = format!(in self.rt.alloc(); "{}.deleted", path.as_str())?;
-        // What a kill has left of an earlier one is removed first.
+        // A kill may have left the folder of an earlier removal, so that goes first.
         let _ = fs::remove_dir_all(self.rt, gone.as_str());
         match fs::rename(self.rt, path.as_str(), gone.as_str()) {
             Err(error) if error.kind() == ErrorKind::NotFound => return Ok(()),
@@ -127,10 +127,10 @@ impl<'a> Copies<'a> {
         fs::remove_dir_all(self.rt, gone.as_str())
     }
 
-    /// Removes the file of a slot by its name in the store, if it is there.
+    /// Removes the file of a slot by its name in the store, if it exists.
     ///
     /// # Errors
-    /// Why it could not be removed.
+    /// The reason why it can't be removed.
     pub fn remove_slot(&self, name: &str) -> io::Result<()> {
         let path = path_in(self.rt.alloc(), self.folder, name)?;
         match fs::remove_file(self.rt, path.as_str()) {
@@ -139,10 +139,10 @@ impl<'a> Copies<'a> {
         }
     }
 
-    /// Removes what is left of the folder of a match, unless it is that of a match again.
+    /// Removes what is left of the folder of a match, unless the folder has a match again.
     ///
     /// # Errors
-    /// Why it could not be removed.
+    /// The reason why it can't be removed.
     pub fn remove_rest(&self, folder: &str) -> io::Result<()> {
         let above = path_in(self.rt.alloc(), self.folder, folder)?;
         let path = path_in(self.rt.alloc(), above.as_str(), MATCH)?;
@@ -152,18 +152,19 @@ impl<'a> Copies<'a> {
         self.remove(folder)
     }
 
-    /// Returns whether the operator has changed a match, and that was not taken in yet.
+    /// Returns whether the operator has changed a match, and the change is not taken in or not
+    /// saved yet.
     ///
     /// # Errors
-    /// `OutOfMemory` alone.
+    /// Only `OutOfMemory`, if memory runs out.
     pub fn is_changed(&self, folder: &str) -> io::Result<bool> {
         is_changed(self.rt, self.folder, folder)
     }
 
-    /// Returns the names of the matches that are played here: those that have seats.
+    /// Returns the names of the matches that are played here, which are those with seats.
     ///
     /// # Errors
-    /// Why the folder could not be read.
+    /// The reason why the folder can't be read.
     pub fn names(&self) -> io::Result<Vec<String>> {
         let alloc = self.rt.alloc();
         let mut names = Vec::new(alloc);
@@ -179,17 +180,17 @@ impl<'a> Copies<'a> {
     /// Returns whether a match has seats here.
     ///
     /// # Errors
-    /// Why the folder could not be read.
+    /// Only `OutOfMemory`, if memory runs out.
     pub fn has_seats(&self, folder: &str) -> io::Result<bool> {
         let above = path_in(self.rt.alloc(), self.folder, folder)?;
         let seats = path_in(self.rt.alloc(), above.as_str(), SEATS)?;
         Ok(fs::metadata(self.rt, seats.as_str()).is_ok())
     }
 
-    /// Returns those of these files that a match has, as the store is to have them.
+    /// Returns those of the named files that a match has, with the texts that the store is to have.
     ///
     /// # Errors
-    /// Why they could not be read.
+    /// The reason why they can't be read.
     pub fn files(&self, folder: &str, names: &[&str]) -> io::Result<Vec<File>> {
         let mut files = Vec::new(self.rt.alloc());
         for file in names.iter() {
@@ -206,7 +207,7 @@ impl<'a> Copies<'a> {
         Ok(files)
     }
 
-    /// Returns the text of a file, as the store is to have it.
+    /// Returns the text that the store is to have for a file; `None` if there is no such file.
     fn text_of(&self, folder: &str, file: &str) -> io::Result<Option<Vec<u8>>> {
         let alloc = self.rt.alloc();
         let above = path_in(alloc, self.folder, folder)?;

@@ -1,4 +1,4 @@
-//! Up to which revision of a store each of its folders is known.
+//! The revision of a store up to which each of its folders is known.
 ghost use Rattle.std.specs.Prelude.{◌≤◌, vec_len};
 
 use std::alloc::{AllocError, Global};
@@ -10,16 +10,16 @@ struct KnownFolder {
     revision: u64,
 }
 
-/// The folders that are known.
+/// The known folders.
 #[derive(Drop)]
 pub struct Known {
     alloc: Global,
-    /// By their names, each once.
+    /// The folders, sorted by name; each name occurs once.
     folders: Vec<KnownFolder>,
 }
 
 impl Known {
-    /// Knows no folder.
+    /// Creates a `Known` without folders.
     pub fn nothing(alloc: Global) -> Known {
         Known {
             alloc,
@@ -27,7 +27,7 @@ impl Known {
         }
     }
 
-    /// Returns where a folder is, or would be.
+    /// Returns the index of a folder, or the index at which it would be inserted.
     fn place_of(&self, name: &str) -> usize
         ensures { result ≤ vec_len self.now.folders }
     {
@@ -35,7 +35,7 @@ impl Known {
             .partition_point(|folder| folder.name.as_str() < name)
     }
 
-    /// Returns the revision up to which a folder is known; 0 where there is none.
+    /// Returns the revision up to which a folder is known; 0 if the folder isn't known.
     pub fn of(&self, name: &str) -> u64 {
         match self.folders.get(self.place_of(name)) {
             Some(folder) if folder.name.as_str() == name => folder.revision,
@@ -43,10 +43,11 @@ impl Known {
         }
     }
 
-    /// Notes up to which revision a folder is known.
+    /// Notes that a folder is known up to a revision. A revision below the noted one changes
+    /// nothing.
     ///
     /// # Errors
-    /// `AllocError` where there is no memory for its name.
+    /// `AllocError` if memory runs out.
     pub fn note(&mut self, name: &str, revision: u64) -> Result<(), AllocError> {
         let place = self.place_of(name);
         match self.folders.get_mut(place) {
@@ -62,15 +63,15 @@ impl Known {
         Ok(())
     }
 
-    /// Notes that a folder is gone.
+    /// Notes that a folder no longer exists.
     pub fn forget(&mut self, name: &str) {
         self.folders.retain(|folder| folder.name.as_str() != name);
     }
 
-    /// Returns the names of the folders that are known up to no revision from this one on.
+    /// Returns the names of the folders that are known only up to a revision before this one.
     ///
     /// # Errors
-    /// `AllocError` where there is no memory for the names.
+    /// `AllocError` if memory runs out.
     pub fn older_than(&self, revision: u64) -> Result<Vec<String>, AllocError> {
         let mut names = Vec::new(self.alloc);
         for folder in self.folders.iter() {

@@ -1,5 +1,5 @@
-//! What the stores of a server of matches are made of: the files of its folders, what a turn has
-//! saved, and the members of an etcd cluster. For `bg_serve`, which has the matches and clients.
+//! The parts of the stores of a match server: the files of its folders, the saves of a turn, and
+//! the members of an etcd cluster. `bg_serve` uses them for its matches and clients.
 //!
 //! ```
 //! // A folder counts as known up to the greatest revision that was noted of it.

@@ -1,4 +1,4 @@
-//! A connection to a member of an etcd cluster: one question at a time, and its answer.
+//! A connection to a member of an etcd cluster: one request at a time, and its answer.
 
 use bg_etcd::{Exchange, Fault};
 use std::alloc::{AllocError, Global};
@@ -6,23 +6,23 @@ use std::io::ErrorKind;
 use std::net::{TcpStream, ToSocketAddrs};
 use std::time::Duration;
 
-/// So many milliseconds a member may take to accept a connection, and one wait for an answer.
+/// The most milliseconds that a connection attempt takes, and that one wait for an answer takes.
 const A_WHILE: u64 = 500;
 
-/// So many waits a member may take to go on with an answer.
+/// The most waits in a row without any new part of an answer.
 const MOST_WAITS: u32 = 4;
 
 /// The answer of a member: its status and its body.
 pub type Answer = (u16, Vec<u8>);
 
-/// A connection to a member. It is large, so it lies in a box.
+/// A connection to a member. It is large, so it is boxed.
 #[derive(Drop)]
 pub struct Line {
     stream: TcpStream,
     exchange: Exchange,
-    /// What it was asked, and has not answered yet.
+    /// The request that the member has not answered yet.
     asked: Option<String>,
-    /// How often nothing of the answer has come in a wait.
+    /// The number of waits in a row that brought nothing of the answer.
     waits: u32,
 }
 
@@ -45,7 +45,7 @@ impl Line {
         Err(fault)
     }
 
-    /// Returns the connection over a stream, on which nothing was asked yet.
+    /// Returns the connection over a stream on which nothing was asked yet.
     fn over(alloc: Global, stream: TcpStream) -> Result<Box<Line>, AllocError> {
         let line = Line {
             stream,
@@ -56,20 +56,20 @@ impl Line {
         Ok(Box::new(alloc, line)?)
     }
 
-    /// Returns whether it waits for the answer to something else.
+    /// Returns whether it waits for the answer to another request than this one.
     pub fn is_asked_else(&self, text: &str) -> bool {
         self.asked
             .as_ref()
             .is_some_and(|asked| asked.as_str() != text)
     }
 
-    /// Returns whether it can be asked something else.
+    /// Returns whether another request can be sent.
     pub fn is_idle(&self) -> bool {
         self.exchange.is_idle()
     }
 
-    /// Asks the member, which is at `host`, unless it was asked the same already. Waits a while for
-    /// the answer; returns None where it has not come.
+    /// Sends a request to the member, which is at `host`, unless it was sent already. Waits a while
+    /// for the answer; returns `None` if it has not come by then.
     pub fn ask(
         &mut self,
         alloc: Global,
@@ -95,7 +95,7 @@ impl Line {
         }
     }
 
-    /// Sends what was asked, and waits for the answer.
+    /// Sends what is left of the request, and waits for the answer.
     fn answered(&mut self, alloc: Global) -> Result<Answer, Fault> {
         for _ in 0..u64::MAX {
             if !self.exchange.wants_write() {

@@ -1,20 +1,20 @@
-//! Matches with texts that come near the most that a store takes.
+//! Matches with texts that come near the limit of a store.
 
 use bg_etcd::{MOST_TEXT, NEAR_TEXT};
 use bg_world::DeviceFault;
 use std::alloc::Global;
 use std::cell::RefCell;
 
-/// A match one of whose texts comes near the most, or is beyond it.
+/// A match with a text that comes near the limit, or is beyond it.
 #[derive(Drop)]
 struct LongMatch {
     name: String,
-    /// Whether it is beyond: then nothing more of the match is saved.
+    /// Whether the text is beyond the limit: then nothing more of the match is saved.
     is_full: bool,
     is_told: bool,
 }
 
-/// The matches whose texts came near the most.
+/// The matches with texts that came near the limit.
 #[derive(Drop)]
 pub struct LongTexts {
     alloc: Global,
@@ -22,7 +22,7 @@ pub struct LongTexts {
 }
 
 impl LongTexts {
-    /// Returns that no text came near.
+    /// Creates a `LongTexts` without matches.
     pub fn none(alloc: Global) -> LongTexts {
         LongTexts {
             alloc,
@@ -30,12 +30,11 @@ impl LongTexts {
         }
     }
 
-    /// Refuses the text of a file that is beyond the most, and notes its match; also where it comes
-    /// near.
+    /// Refuses the text of a file if it is beyond the limit. Notes the match of a text that is
+    /// beyond the limit, or comes near it.
     ///
     /// # Errors
-    /// `Failed` where the text is beyond the most, and `Memory` where there is none to note its
-    /// match.
+    /// `Failed` if the text is beyond the limit, and `Memory` if memory runs out.
     pub fn check(&self, file: &str, length: usize) -> Result<(), DeviceFault> {
         if length >= NEAR_TEXT {
             let name = file.split('/').next().unwrap_or(file);
@@ -47,7 +46,7 @@ impl LongTexts {
         Ok(())
     }
 
-    /// Notes a match, unless it is noted already.
+    /// Notes a match, unless it is already noted with the same `is_full`.
     fn note(&self, name: &str, is_full: bool) -> Result<(), DeviceFault> {
         let Ok(mut found) = self.found.try_borrow_mut() else {
             return Ok(());
@@ -75,14 +74,15 @@ impl LongTexts {
             .any(|long| long.is_full && long.name.as_str() == name)
     }
 
-    /// Forgets a match, of which there is another state now.
+    /// Forgets a match, because it has another state now.
     pub fn forget(&self, name: &str) {
         if let Ok(mut found) = self.found.try_borrow_mut() {
             found.retain(|long| long.name.as_str() != name);
         }
     }
 
-    /// Returns the name of the next match that was not told yet, and whether it is full.
+    /// Returns the name of the next match that was not reported yet, and whether it is full. Marks
+    /// the match as reported.
     pub fn next_untold(&self) -> Option<(String, bool)> {
         let Ok(mut found) = self.found.try_borrow_mut() else {
             return None;

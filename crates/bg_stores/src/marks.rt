@@ -1,5 +1,4 @@
-//! What stands beside the match in its folder: whether lists leave it out, and when it was saved
-//! last.
+//! What a folder says about its match: whether lists leave it out, and when it was last saved.
 
 use bg_console::path_in;
 use std::fs::OpenOptions;
@@ -8,28 +7,28 @@ use std::os::unix::fs::{MetadataExt, OpenOptionsExt};
 use std::time::SystemTime;
 use std::{fs, io};
 
-/// The name of the file that a match has which lists leave out. It is empty.
+/// The name of an empty file, which a match has if lists leave it out.
 const HIDDEN: &str = "hidden";
 
 /// The slots of the referee.
 const SLOTS: [&str; 2] = ["party-0.0", "party-0.1"];
 
-/// A file that only its owner reads and writes.
+/// The mode of a file that only its owner can read and write.
 const OWNER_ALONE: u32 = 0o600;
 
-/// Returns whether lists leave the match of a folder out.
+/// Returns whether lists leave out the match of a folder.
 ///
 /// # Errors
-/// AllocError where there is no memory for a path, as of all functions here.
+/// `OutOfMemory` if memory runs out, as for all functions here.
 pub fn is_hidden(rt: &HostRuntime, folder: &str) -> io::Result<bool> {
     let path = path_in(rt.alloc(), folder, HIDDEN)?;
     Ok(fs::metadata(rt, path.as_str()).is_ok())
 }
 
-/// Has lists leave the match of a folder out.
+/// Makes lists leave out the match of a folder.
 ///
 /// # Errors
-/// Why the file could not be written.
+/// The reason why the file can't be written.
 pub fn hide(rt: &HostRuntime, folder: &str) -> io::Result<()> {
     let path = path_in(rt.alloc(), folder, HIDDEN)?;
     let file = OpenOptions::new()
@@ -40,10 +39,10 @@ pub fn hide(rt: &HostRuntime, folder: &str) -> io::Result<()> {
     file.sync_all()
 }
 
-/// Has lists show the match of a folder again.
+/// Makes lists show the match of a folder again.
 ///
 /// # Errors
-/// Why the file could not be removed.
+/// The reason why the file can't be removed.
 pub fn show(rt: &HostRuntime, folder: &str) -> io::Result<()> {
     let path = path_in(rt.alloc(), folder, HIDDEN)?;
     match fs::remove_file(rt, path.as_str()) {
@@ -52,10 +51,10 @@ pub fn show(rt: &HostRuntime, folder: &str) -> io::Result<()> {
     }
 }
 
-/// Returns for how many minutes the referee of a folder has saved nothing; 0 where it never has.
+/// Returns the number of minutes since the referee of a folder last saved; 0 if it never has.
 ///
 /// # Errors
-/// Why the clock could not be read.
+/// The reason why the clock can't be read.
 pub fn quiet_minutes(rt: &HostRuntime, folder: &str) -> io::Result<u64> {
     let mut saved = 0;
     for slot in SLOTS {

@@ -1,4 +1,4 @@
-//! The members of an etcd cluster, of which one is asked at a time.
+//! The members of an etcd cluster, one of which is asked at a time.
 
 use crate::lines::{Answer, Line};
 use bg_etcd::{Fault, revision_in};
@@ -9,19 +9,19 @@ use std::io::ErrorKind;
 #[derive(Drop)]
 pub struct Members<'a> {
     rt: &'a HostRuntime,
-    /// The address of each: its host and port.
+    /// The addresses of the members, each a host and a port.
     hosts: Vec<String>,
-    /// The index of the one that is asked.
+    /// The index of the member that is asked.
     at: usize,
     line: Option<Box<Line>>,
     /// How many members have failed since the last answer.
     failed: usize,
-    /// Whether the last question was answered.
+    /// Whether the cluster answers: `false` once all members have failed in a row.
     pub is_answering: bool,
 }
 
 impl<'a> Members<'a> {
-    /// Returns the members of these addresses, of which there is one at least.
+    /// Returns the members at these addresses, of which there must be at least one.
     pub fn new(rt: &'a HostRuntime, hosts: Vec<String>) -> Members<'a> {
         Members {
             rt,
@@ -33,7 +33,7 @@ impl<'a> Members<'a> {
         }
     }
 
-    /// Returns the address of the member at a place, counted round.
+    /// Returns the address of the member at a place. Places beyond the last member wrap around.
     pub fn host_at(&self, place: usize) -> &str {
         let at = match place.checked_rem(self.hosts.len()) {
             Some(at) => at,
@@ -45,12 +45,12 @@ impl<'a> Members<'a> {
         }
     }
 
-    /// Returns how often all members come before a place, counted round.
+    /// Returns how many full rounds of all members come before a place.
     pub fn round_of(&self, place: usize) -> usize {
         place.checked_div(self.hosts.len()).unwrap_or(0)
     }
 
-    /// Asks the next member from now on, since this one has failed. Returns whether all have.
+    /// Switches to the next member, because this one has failed. Returns whether all have failed.
     fn turn(&mut self) -> bool {
         self.line = None;
         self.at = self.at.saturating_add(1);
@@ -66,11 +66,12 @@ impl<'a> Members<'a> {
         have_all
     }
 
-    /// Asks a member, and the others in turn where it doesn't answer, or can't do what it is asked
-    /// for now. Returns the answer.
+    /// Asks a member, and returns its answer. If it doesn't answer, or can't carry out the request
+    /// now, asks the others in turn.
     ///
     /// # Errors
-    /// Why the last of them did not. What was asked for may be done nevertheless, also later.
+    /// The reason why the last member failed. The cluster may carry out the request nevertheless,
+    /// even later.
     pub fn ask(&mut self, path: &str, text: &str) -> Result<Answer, Fault> {
         for _ in 0..u64::MAX {
             if let Some(answer) = self.ask_awhile(path, text)? {
@@ -80,11 +81,11 @@ impl<'a> Members<'a> {
         Err(Fault::Away(ErrorKind::TimedOut))
     }
 
-    /// Asks as [`Members::ask`] does, but waits for one member only, and only for a while. Returns
-    /// None where no answer has come then: whoever asks the same again goes on waiting.
+    /// Asks as [`Members::ask`] does, but waits for only one member, and only for a while. Returns
+    /// `None` if no answer has come by then. To continue waiting, ask the same again.
     ///
     /// # Errors
-    /// Why the last member that was asked gave no answer, where none has given one.
+    /// The reason why the last member failed, if all members have failed.
     pub fn ask_awhile(&mut self, path: &str, text: &str) -> Result<Option<Answer>, Fault> {
         for _ in 0..self.hosts.len() {
             let fault = match self.ask_one(path, text) {
@@ -109,8 +110,8 @@ impl<'a> Members<'a> {
         Ok(None)
     }
 
-    /// Asks the member whose turn it is, unless it was asked the same already. An answer that it
-    /// can't be done now is a fault.
+    /// Asks the member whose turn it is, unless it was asked the same already. An answer with a
+    /// status of 500 or more is a fault: the request can't be carried out now.
     fn ask_one(&mut self, path: &str, text: &str) -> Result<Option<Answer>, Fault> {
         let alloc = self.rt.alloc();
         if self
@@ -140,11 +141,11 @@ impl<'a> Members<'a> {
     }
 }
 
-/// Returns the members that the words of an option name: `HOST:PORT`, and further ones behind
-/// commas; None where they name none.
+/// Returns the addresses in an option, each `HOST:PORT`, separated by commas; `None` if any of them
+/// is something else.
 ///
 /// # Errors
-/// AllocError where there is no memory for them.
+/// `AllocError` if memory runs out.
 pub fn hosts_in(alloc: Global, words: &str) -> Result<Option<Vec<String>>, AllocError> {
     let mut hosts = Vec::new(alloc);
     for host in words.split(',') {

@@ -1,4 +1,4 @@
-//! What is to be put into a store, by matches.
+//! The changes that are still to be put into a store, by match.
 
 use crate::known::Known;
 use crate::troubles::Trouble;
@@ -6,20 +6,22 @@ use bg_etcd::{Batches, Changes, File};
 use bg_journal::FileText;
 use std::alloc::Global;
 
-/// What is to be put into a store.
+/// The changes that are still to be put into a store.
 #[derive(Drop)]
 pub struct Pending {
     alloc: Global,
-    /// What each match is to have.
+    /// The new files of each match.
     pub changes: Vec<Changes>,
-    /// How many of those go by themselves: a transaction with all of them was refused.
+    /// How many of the first of these get a transaction each, because one with all of them was
+    /// refused.
     alone: usize,
-    /// The matches that are to be removed, and how they are known. They come before the changes.
+    /// The matches to be removed, each with the revision up to which it is known. They come before
+    /// the changes.
     pub removals: Vec<Changes>,
 }
 
 impl Pending {
-    /// Returns that nothing is to be put.
+    /// Creates a `Pending` without changes.
     pub fn nothing(alloc: Global) -> Pending {
         Pending {
             alloc,
@@ -34,10 +36,10 @@ impl Pending {
         self.changes.is_empty() && self.removals.is_empty()
     }
 
-    /// Adds a copy of a file, in place of an older one.
+    /// Adds a copy of a file, which replaces an older copy of it.
     ///
     /// # Errors
-    /// `Memory` alone, as a fault of the store.
+    /// Only `Memory`, as a fault of the store, if memory runs out.
     pub fn add_file(&mut self, known: &Known, file: &FileText) -> Result<(), Trouble> {
         let Some((folder, _)) = file.name.as_str().split_once('/') else {
             return Ok(());
@@ -58,10 +60,10 @@ impl Pending {
         Ok(())
     }
 
-    /// Adds a match to those that are to be removed. What was to be put of it isn't any more.
+    /// Adds a match to those to be removed, and drops its other changes.
     ///
     /// # Errors
-    /// `Memory` alone, as a fault of the store.
+    /// Only `Memory`, as a fault of the store, if memory runs out.
     pub fn add_removal(&mut self, known: &Known, folder: &str) -> Result<(), Trouble> {
         self.changes
             .retain(|changes| changes.folder.as_str() != folder);
@@ -70,7 +72,8 @@ impl Pending {
         Ok(())
     }
 
-    /// Returns how many matches the next transaction has: as many as fit into one.
+    /// Returns how many matches go into the next transaction: as many as fit, or one if it goes
+    /// alone.
     pub fn batch(&self) -> usize {
         if self.alone > 0 {
             return 1;
@@ -84,12 +87,12 @@ impl Pending {
         self.changes.len()
     }
 
-    /// Has the first matches go by themselves.
+    /// Gives each of the first `count` matches a transaction of its own.
     pub fn part(&mut self, count: usize) {
         self.alone = count;
     }
 
-    /// Takes the first match, which is done with.
+    /// Removes and returns the first match, because its changes are done.
     pub fn take_first(&mut self) -> Option<Changes> {
         if self.changes.is_empty() {
             return None;

@@ -1,17 +1,17 @@
-//! Why a server could not share what it has with others.
+//! The reasons why a server could not share what it has with other servers.
 
 use bg_etcd::Fault;
 use std::alloc::{AllocError, AllocFailed};
 use std::io;
 
-/// Why a server could not share what it has with others.
+/// The reasons why a server could not share what it has with other servers.
 #[derive(Drop)]
 pub enum Trouble {
-    /// The store could not be asked, or has refused.
+    /// The store could not be asked, or refused the request.
     Store(Fault),
-    /// The store has not answered yet: the same is to be asked again.
+    /// The store has not answered yet: the same request is to be sent again.
     NotYet,
-    /// The store is older than what was read of it.
+    /// The store is older than what was read from it.
     Older,
     /// The folder could not be read or written.
     Folder(io::Error),

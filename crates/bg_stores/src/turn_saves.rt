@@ -10,13 +10,13 @@ use std::alloc::{AllocError, Global};
 use std::cell::RefCell;
 use std::rc::Rc;
 
-/// The changes of files that are not durable yet, in their order, and those that are durable in the
-/// database while their files may be older.
+/// The changes of files that are not durable yet, in order. Besides, the files whose newest texts
+/// are durable in the database while they themselves may be older.
 #[derive(Drop)]
 pub struct TurnSaves {
     pub fresh: RefCell<Vec<Change>>,
     pub behind: RefCell<Behind>,
-    /// The matches that come near the most that a store takes, where there is one.
+    /// The matches with texts near the limit of the store; `None` if there is no store.
     pub long: Option<LongTexts>,
 }
 
@@ -30,7 +30,7 @@ impl TurnSaves {
         }
     }
 
-    /// Creates a turn without saves, of a server that shares its matches.
+    /// Creates a turn without saves, for a server that shares its matches.
     pub fn shared(alloc: Global) -> TurnSaves {
         TurnSaves {
             long: Some(LongTexts::none(alloc)),
@@ -41,7 +41,7 @@ impl TurnSaves {
     /// Adds a change.
     ///
     /// # Errors
-    /// `Failed` where the changes are in use, and `Memory` where there is none for another one.
+    /// `Failed` if the changes are in use, and `Memory` if memory runs out.
     pub fn add(&self, change: Change) -> Result<(), DeviceFault> {
         match self.fresh.try_borrow_mut() {
             Ok(mut fresh) => Ok(fresh.push(change)?),
@@ -49,8 +49,8 @@ impl TurnSaves {
         }
     }
 
-    /// Adds a save. In a store only the newest of a party in a turn is written, as all that a match
-    /// saves there in a turn is one transaction.
+    /// Adds a save. With a store, only the newest save of a party in a turn is kept, because all
+    /// saves of a match in a turn are one transaction.
     fn add_save(&self, other: &str, file: FileText) -> Result<(), DeviceFault> {
         let Some(long) = &self.long else {
             return self.add(Change::Put(file));
@@ -69,7 +69,7 @@ impl TurnSaves {
     /// Notes that the files of a match are gone.
     ///
     /// # Errors
-    /// As those of [`TurnSaves::add`].
+    /// The errors of [`TurnSaves::add`].
     pub fn remove(&self, alloc: Global, name: &str) -> Result<(), DeviceFault> {
         if let Some(long) = &self.long {
             long.forget(name);
@@ -78,16 +78,16 @@ impl TurnSaves {
         self.add(Change::Remove(name))
     }
 
-    /// Returns whether nothing more of a match is saved, since it is too long for the store.
+    /// Returns whether nothing more of a match is saved, because it is too long for the store.
     pub fn is_full(&self, name: &str) -> bool {
         self.long.as_ref().is_some_and(|long| long.is_full(name))
     }
 
-    /// Returns the text that a file has in the database, or will have at the end of the turn, where
+    /// Returns the text that a file has in the database, or will have at the end of the turn, if
     /// the file itself may be older.
     ///
     /// # Errors
-    /// `Failed` where the changes are in use, and `Memory` where there is none for the text.
+    /// `Failed` if the changes are in use, and `Memory` if memory runs out.
     pub fn newest(&self, alloc: Global, name: &str) -> Result<Option<Vec<u8>>, DeviceFault> {
         let (Ok(fresh), Ok(behind)) = (self.fresh.try_borrow(), self.behind.try_borrow()) else {
             return Err(DeviceFault::Failed);
@@ -104,7 +104,7 @@ impl TurnSaves {
     }
 }
 
-/// Returns whether a change is that by which the file of this name has a text.
+/// Returns whether a change puts a text into the file of this name.
 fn is_put_of(change: &Change, name: &str) -> bool {
     match change {
         Change::Put(file) => file.name.as_str() == name,
@@ -112,7 +112,7 @@ fn is_put_of(change: &Change, name: &str) -> bool {
     }
 }
 
-/// The slots of a party whose saves are made durable with those of the turn.
+/// The slots of a party, whose saves are made durable with the other saves of the turn.
 #[derive(Drop)]
 pub struct TurnSlots {
     alloc: Global,
@@ -122,10 +122,10 @@ pub struct TurnSlots {
 }
 
 impl TurnSlots {
-    /// Creates the slots of a party of the match of this name.
+    /// Creates the slots of a party of the match with this name.
     ///
     /// # Errors
-    /// `AllocError` where there is no memory for the names of their files.
+    /// `AllocError` if memory runs out.
     pub fn new(
         alloc: Global,
         saves: Rc<TurnSaves>,
@@ -150,8 +150,8 @@ impl TurnSlots {
     /// Adds the text of a slot to the saves of the turn.
     ///
     /// # Errors
-    /// `Failed` where the changes are in use or the text is beyond the most that a store takes, and
-    /// `Memory` where there is none for it.
+    /// `Failed` if the changes are in use or the text is beyond the limit of the store, and
+    /// `Memory` if memory runs out.
     pub fn write(&self, slot: Slot, text: &[u8]) -> Result<(), DeviceFault> {
         let name = String::from_str(self.alloc, self.name(slot))?;
         let text = text.to_vec(self.alloc)?;
@@ -162,10 +162,10 @@ impl TurnSlots {
         self.saves.add_save(other, FileText { name, text })
     }
 
-    /// Returns the text of a slot where its file may be older.
+    /// Returns the newest text of a slot, if its file may be older.
     ///
     /// # Errors
-    /// As those of [`TurnSaves::newest`].
+    /// The errors of [`TurnSaves::newest`].
     pub fn newest(&self, slot: Slot) -> Result<Option<Vec<u8>>, DeviceFault> {
         self.saves.newest(self.alloc, self.name(slot))
     }

@@ -1,4 +1,4 @@
-//! The watch of a store: a connection by which a member tells what changes.
+//! The watch of a store: a connection on which a member reports changes.
 
 use bg_etcd::{Event, Exchange, Fault, News, news_in, watch_text};
 use mio::net::TcpStream;
@@ -13,7 +13,7 @@ pub const WATCH: Token = Token(usize::MAX);
 /// The most reads in one turn.
 const MOST_READS: u32 = 4096;
 
-/// A watch. It is large, so it lies in a box.
+/// A watch. It is large, so it is boxed.
 #[derive(Drop)]
 pub struct Watch {
     alloc: Global,
@@ -21,21 +21,21 @@ pub struct Watch {
     exchange: Exchange,
 }
 
-/// What a watch has told.
+/// What a watch has reported.
 #[derive(Drop)]
 pub enum Told {
-    /// Changes, in their order; None where nothing has come, not even that the watch has begun.
+    /// The changes, in order; `None` if nothing has come, not even that the watch has begun.
     Events(Option<Vec<Event>>),
-    /// It can't go on from where it was.
+    /// The watch can't continue from where it was.
     Ended,
 }
 
 impl Watch {
-    /// Asks a member to tell what changes from a revision on, and has the server woken then. Each
-    /// round takes another address of the member.
+    /// Asks a member to report changes from a revision on, and registers the connection to wake the
+    /// server when they come. Each round uses another address of the member.
     ///
     /// # Errors
-    /// Why it can't be asked.
+    /// The reason why the member can't be asked.
     pub fn begin(
         rt: &HostRuntime,
         registry: &Registry,
@@ -50,7 +50,7 @@ impl Watch {
         Ok(Watch::over(rt.alloc(), stream, exchange)?)
     }
 
-    /// Returns the watch over a stream, on which it was asked for.
+    /// Returns the watch over a stream, for which `exchange` has the request.
     fn over(
         alloc: Global,
         stream: TcpStream,
@@ -64,10 +64,10 @@ impl Watch {
         Ok(Box::new(alloc, watch)?)
     }
 
-    /// Returns what has come.
+    /// Returns what has come since the last call.
     ///
     /// # Errors
-    /// Why nothing will come any more.
+    /// The reason why nothing more will come.
     pub fn told(&mut self) -> Result<Told, Fault> {
         if !self.send()? {
             return Ok(Told::Events(None));
@@ -87,7 +87,7 @@ impl Watch {
         Ok(Told::Events(has_come.then_some(all)))
     }
 
-    /// Sends what is left of the request; returns whether all of it went.
+    /// Sends what is left of the request; returns whether all of it was sent.
     fn send(&mut self) -> Result<bool, Fault> {
         for _ in 0..u64::MAX {
             if !self.exchange.wants_write() {
@@ -103,7 +103,7 @@ impl Watch {
         Ok(true)
     }
 
-    /// Reads until nothing more is there; returns whether anything was.
+    /// Reads until nothing more is available; returns whether anything was.
     fn read(&mut self) -> Result<bool, Fault> {
         for count in 0..MOST_READS {
             match self.exchange.read_from(&mut self.stream) {
@@ -117,8 +117,8 @@ impl Watch {
     }
 }
 
-/// Returns an address of a member: in the first four rounds each of the first four, where it has so
-/// many, else the first.
+/// Returns an address of a member: each of its first four in turn, one per round. If it has no such
+/// address, returns the first.
 fn address_of(rt: &HostRuntime, host: &str, round: usize) -> Result<SocketAddr, Fault> {
     if let Some(address) = host.to_socket_addrs(rt)?.nth(round & 3) {
         return Ok(address);

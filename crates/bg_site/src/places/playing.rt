@@ -1,4 +1,4 @@
-//! How a match of the server goes on, action by action and tick by tick.
+//! The actions and ticks of a match of the server.
 ghost use Rattle.std.specs.Prelude.{◌≡◌};
 
 use super::Place;
@@ -19,7 +19,7 @@ impl<K: Keeper + Drop> Place<K> {
         }
     }
 
-    /// Returns whether nothing is to be done on a tick: the match is too long to be saved, and all
+    /// Returns whether a tick has nothing to do, because the match is too long to be saved and all
     /// that was saved is shown.
     pub(crate) fn is_still<S: Store<K>>(&self, store: &S) -> bool {
         match &self.hosted {
@@ -28,7 +28,7 @@ impl<K: Keeper + Drop> Place<K> {
         }
     }
 
-    /// Does what is left to be done; returns whether anything became visible.
+    /// Does what is left to do. Returns whether anything became visible.
     pub(crate) fn tick(&mut self) -> bool {
         if let Some(hosted) = &mut self.hosted {
             if hosted.is_restless() {
@@ -38,7 +38,7 @@ impl<K: Keeper + Drop> Place<K> {
         self.refresh()
     }
 
-    /// Lets a player act while the match goes on.
+    /// Carries out a player's action while the match is in progress.
     pub(crate) fn act(&mut self, player: Player, number: Number, action: Action) -> Acted {
         match &mut self.hosted {
             Some(hosted) => hosted.act(player, number, action),
@@ -46,7 +46,7 @@ impl<K: Keeper + Drop> Place<K> {
         }
     }
 
-    /// Returns what came of an action in a match of which nothing more is saved.
+    /// Returns the outcome of an action in a match of which nothing more can be saved.
     pub(crate) fn acted_when_full(&self, player: Player, number: Number, action: &Action) -> Acted {
         match self.held() {
             Some(record) if is_answered(record, player, number, action) => Acted::Done,
@@ -54,7 +54,8 @@ impl<K: Keeper + Drop> Place<K> {
         }
     }
 
-    /// Notes what became visible; returns whether anything did. Lets go of a match that is over.
+    /// Notes what became visible, and returns whether anything did. Releases the hosted match once
+    /// it is over.
     pub(crate) fn refresh(&mut self) -> bool
         ensures { self.new.seats ≡ self.old.seats }
     {
@@ -77,8 +78,8 @@ impl<K: Keeper + Drop> Place<K> {
     }
 }
 
-/// Returns what came of an action in a match that has ended with this record: it is done if its
-/// entry answers it.
+/// Returns the outcome of an action in a match that has ended with this record: `Done` if the entry
+/// of that number answers it.
 pub(crate) fn acted_before(
     record: &Record,
     player: Player,
