@@ -15,9 +15,11 @@
 //!     reads: Vec::new(alloc),
 //! };
 //! let events = [Event::Due { word: 12 }, Event::Save { party: 0 }];
+//! let tick = parse_event(b"tick 1")?;
 //! let (mut world, report) = simulate(alloc, setup, &no_failures, &events)?;
+//! let outcome = world.step(tick);
+//! drop(world);
 //! assert!(rt; report.done == 2 && report.faults == 0);
-//! let outcome = world.step(parse_event(b"tick 1")?);
 //! assert!(rt; outcome == Outcome::Sent(1) && outcome_text(&outcome).as_str() == "sent 1");
 //! ```
 #![tactic(auto)]
