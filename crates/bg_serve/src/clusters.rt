@@ -101,7 +101,7 @@ impl<'a> Cluster<'a> {
         if !self.pending.is_empty() {
             let begun = Instant::now(self.rt).ok();
             let result = self.put_all();
-            let has_failed = matches!(result, Err(Trouble::Store(_)));
+            let has_failed = !matches!(result, Ok(()) | Err(Trouble::NotYet));
             self.counts
                 .note_commit(!has_failed, micros_since(self.rt, begun));
             result?;

@@ -104,8 +104,12 @@ impl<'a> FolderStore<'a> {
     /// The reason why it can't be read.
     pub(crate) fn changed(&self, name: &str) -> io::Result<Option<Changed>> {
         let path = path_in(self.rt.alloc(), self.folder, name)?;
-        let Some(file) = self.match_in(path.as_str())? else {
-            return Ok(None);
+        let file = path_in(self.rt.alloc(), path.as_str(), "match")?;
+        let file = match NamedMatch::read(self.rt, file.as_str()) {
+            Ok(Some(file)) => file,
+            Ok(None) => return Err(io::Error::from(ErrorKind::InvalidData)),
+            Err(error) if error.kind() == ErrorKind::NotFound => return Ok(None),
+            Err(error) => return Err(error),
         };
         Ok(Some(Changed {
             names: file.names,

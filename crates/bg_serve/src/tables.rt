@@ -99,11 +99,14 @@ impl<'a> Tables<'a> {
         Ok(Some(secret))
     }
 
-    /// Deletes a match. Its folder first gets a name that no match has, so that no partial match
-    /// remains if the process is killed.
+    /// Deletes a match durably. Its folder first gets a name that no match has, so that no partial
+    /// match remains if the process is killed.
     pub(crate) fn delete(&self, path: &str) -> io::Result<()> {
         let gone = format!(in self.rt.alloc(); "{path}.deleted")?;
+        // What is left of an earlier deletion that was interrupted by a kill is removed first.
+        let _ = fs::remove_dir_all(self.rt, gone.as_str());
         fs::rename(self.rt, path, gone.as_str())?;
+        File::open(self.rt, self.folder)?.sync_all()?;
         fs::remove_dir_all(self.rt, gone.as_str())
     }
 

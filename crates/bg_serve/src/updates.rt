@@ -5,16 +5,18 @@ use bg_requests::is_name;
 use std::io;
 
 impl<'a> Server<'a> {
-    /// Applies the operator's changes, as far as they can be read.
+    /// Applies the operator's changes. A change that can't be applied keeps its mark, and is retried
+    /// in the next second.
     pub(crate) fn take_changes(&mut self) {
         let Ok(names) = self.store().take_changes() else {
             return;
         };
-        for name in names.iter() {
-            let _ = self.take_change(name.as_str());
-            self.changed = self.changed.saturating_add(1);
+        for name in names {
+            if self.take_change(name.as_str()).is_ok() {
+                self.changed = self.changed.saturating_add(1);
+                let _ = self.taken.push(name);
+            }
         }
-        self.taken = names;
     }
 
     /// Forgets the operator's changes that were applied, because they are saved now.

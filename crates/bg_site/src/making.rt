@@ -79,7 +79,7 @@ impl<K: Keeper + Drop, S: Store<K> + Drop> Site<K, S> {
                 "too many matches in a short time\n",
             );
         }
-        if self.places.len() >= MOST_MATCHES {
+        if self.len() >= MOST_MATCHES {
             return refuse_full(response);
         }
         match self.store.make(ordered.terms, ordered.names) {

@@ -103,6 +103,7 @@ impl<K: Keeper + Drop, S: Store<K> + Drop> Site<K, S> {
         let _ = self.note_news();
         if let Some(place) = self.places.get_mut(index) {
             place.remove();
+            self.gone = self.gone.saturating_add(1);
         }
         true
     }

@@ -26,6 +26,8 @@ pub struct Site<K, S> {
     pub(crate) alloc: Global,
     pub(crate) store: S,
     pub(crate) places: Vec<Place<K>>,
+    /// The number of places whose match has been deleted.
+    pub(crate) gone: usize,
     /// The peer of the connection that the last request upgraded.
     pub(crate) upgraded: Option<Peer>,
     /// The client of the connection that the current request came on.
@@ -58,6 +60,7 @@ impl<K: Keeper + Drop, S: Store<K> + Drop> Site<K, S> {
             alloc,
             store,
             places: Vec::new(alloc),
+            gone: 0,
             upgraded: None,
             caller: Caller::UNKNOWN,
             may_make: true,
@@ -73,7 +76,7 @@ impl<K: Keeper + Drop, S: Store<K> + Drop> Site<K, S> {
 
     /// Adds a match. Returns whether there was room and memory for it.
     pub fn open(&mut self, found: Found<K>) -> bool {
-        if self.places.len() >= MOST_MATCHES {
+        if self.len() >= MOST_MATCHES {
             return false;
         }
         let news = self.note_news();
@@ -97,14 +100,14 @@ impl<K: Keeper + Drop, S: Store<K> + Drop> Site<K, S> {
         &self.store
     }
 
-    /// Returns the number of matches, including those that have been deleted.
+    /// Returns the number of matches.
     pub fn len(&self) -> usize {
-        self.places.len()
+        self.places.len().saturating_sub(self.gone)
     }
 
     /// Returns whether there are no matches.
     pub fn is_empty(&self) -> bool {
-        self.places.is_empty()
+        self.len() == 0
     }
 
     /// Sets whether the requests that are handed in next may make matches.

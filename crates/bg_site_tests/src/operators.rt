@@ -77,7 +77,7 @@ fn is_seen(shelf: &Shelf, site: &mut Server<'_>, line: &str) -> bool {
         "change hidden" => site.change("made", changed(true)),
         "no change" => !site.change("made", changed(false)),
         "remove" => site.remove("made"),
-        "no match" => !site.remove("made"),
+        "no match" => !site.remove("made") && site.is_empty(),
         "restless" => site.is_restless(),
         "still" => !site.is_restless(),
         "fail" => {

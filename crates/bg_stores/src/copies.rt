@@ -180,11 +180,15 @@ impl<'a> Copies<'a> {
     /// Returns whether a match has seats here.
     ///
     /// # Errors
-    /// Only `OutOfMemory`, if memory runs out.
+    /// The reason why that can't be told.
     pub fn has_seats(&self, folder: &str) -> io::Result<bool> {
         let above = path_in(self.rt.alloc(), self.folder, folder)?;
         let seats = path_in(self.rt.alloc(), above.as_str(), SEATS)?;
-        Ok(fs::metadata(self.rt, seats.as_str()).is_ok())
+        match fs::metadata(self.rt, seats.as_str()) {
+            Ok(_) => Ok(true),
+            Err(error) if error.kind() == ErrorKind::NotFound => Ok(false),
+            Err(error) => Err(error),
+        }
     }
 
     /// Returns those of the named files that a match has, with the texts that the store is to have.

@@ -9,8 +9,9 @@ use std::time::Duration;
 /// The most milliseconds that a connection attempt takes, and that one wait for an answer takes.
 const A_WHILE: u64 = 500;
 
-/// The most waits in a row without any new part of an answer.
-const MOST_WAITS: u32 = 4;
+/// The most waits in a row without any new part of an answer. After one more, so after two seconds,
+/// a member is given up.
+const MOST_WAITS: u32 = 3;
 
 /// The answer of a member: its status and its body.
 pub type Answer = (u16, Vec<u8>);

@@ -6,6 +6,7 @@ import subprocess
 import time
 
 from counting import right
+from parties import comes
 from program import PROGRAM
 from serving.asking import bearer, begin_players, counted, has_ended, lines_of, names_on, secret_of, state_of, wait_for
 from web_sockets import Socket
@@ -22,6 +23,7 @@ def change_while_serving(server):
     made = server.make(length=1, x="Anna", o="Otto")
     name, copies = made["match"], os.path.join(server.folder + "-copies")
     hide_and_show(server, name)
+    keep_unread(server, name)
     watcher = Socket(server.port, f"/matches/{name}/live")
     link = make_link(server, made)
     delete_and_restore(server, name, link, watcher, copies)
@@ -41,6 +43,20 @@ def hide_and_show(server, name):
     right(manage(server, "--match", name, "--forget-names")[0] == 0, "forgetting names")
     first = json.loads(server.ask("/matches")[2])["matches"][0]
     right(first["names"] == ["", ""] and name not in names_on(server, "search=Anna"), "names are kept")
+
+
+def keep_unread(server, name):
+    """What the operator has changed of a match that can't be read at the moment is not lost, and the match stays."""
+    file = f"{server.folder}/{name}/match"
+    os.rename(file, file + "-aside")
+    os.mkdir(file)
+    status, _, told = manage(server, "--match", name, "--hide")
+    right(status == 0 and "has not answered within 5 seconds" in told, f"hiding what can't be read: {status} {told}")
+    right(name in names_on(server) and server.ask(f"/matches/{name}/state")[0] == 200, "what can't be read is not there")
+    os.rmdir(file)
+    os.rename(file + "-aside", file)
+    right(comes(lambda: name not in names_on(server)), "a change that could not be read at first is lost")
+    right(manage(server, "--match", name, "--show") == (0, "", "") and name in names_on(server), "it is not shown again")
 
 
 def make_link(server, made):
@@ -68,6 +84,8 @@ def delete_and_restore(server, name, link, watcher, copies):
     path = f"/matches/{name}"
     right(manage(server, "--backup", copies)[0] == 0 and os.path.exists(f"{copies}/{name}/match"), "copies of all")
     right(manage(server, "--match", name, "--restore", copies)[0] == 2, "a match that is there is restored")
+    # What a kill has left of an earlier deletion is in nobody's way.
+    shutil.copytree(f"{server.folder}/{name}", f"{server.folder}/{name}.deleted")
     right(manage(server, "--match", name, "--delete") == (0, "", "") and has_ended(watcher), "deleting a match")
     is_gone = not [one for one in os.listdir(server.folder) if name in one]
     right(server.ask(path + "/state")[0] == 404 and is_gone, "a deleted match is there")
