@@ -17,7 +17,7 @@ const TOGETHER: &str =
 /// The sign of that at a referee whose folder is older than that of another party.
 const BEHIND: &str = "another party has entries that the referee lacks";
 
-/// An observer that reports failed devices on the standard error. It also reports, once, that the
+/// An observer that reports failed devices on standard error. It also reports, once, that the
 /// parties can't go on together, and the sign of that (docs/OPERATING.md, "Messages").
 #[derive(Drop)]
 pub struct FailureReporter<'a, R> {
@@ -65,8 +65,8 @@ impl<'a, R: Eprint> FailureReporter<'a, R> {
 }
 
 impl<'a, R: Eprint> FailureReporter<'a, R> {
-    /// Reports the failures of devices in an event, and whether it shows that parties can't go on
-    /// together.
+    /// Reports the failures of devices in an event, and that the parties can't go on together, if
+    /// the event shows that.
     pub fn saw(&mut self, event: &Event, outcome: &Outcome) {
         self.say_failures();
         if !is_out_of_step(outcome) {
@@ -106,7 +106,7 @@ impl<'a, R: Eprint> FailureReporter<'a, R> {
         );
     }
 
-    /// Ends with `Failed` where the files of the party were given up, and reports it. A write to
+    /// Ends with `Failed`, and reports it, where the files of the party were given up: a write to
     /// one of them failed, and could not be taken back.
     pub fn check_files(&self) -> Result<(), Ending> {
         if !self.failures.are_final() {

@@ -1,9 +1,8 @@
-//! The common parts of the commands that run one party. They are its socket, the observer that
-//! reports failed devices, its log, and the messages where the party can't continue. For the
-//! commands of a program.
+//! What the commands that run one party share: its socket, the observer that reports failed
+//! devices, its log, and the messages if the party can't continue.
 //!
 //! ```
-//! // A party that can't save is down, and why is said on the standard error, with what to do.
+//! // A party that can't save any more is down: a message says why, and what to do.
 //! let saves = OwnSaves {
 //!     folder,
 //!     party: REFEREE,

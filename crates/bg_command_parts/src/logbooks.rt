@@ -28,7 +28,7 @@ impl Display for Named {
     }
 }
 
-/// The players of a match, at the end of a line; nothing where none has a name.
+/// The players of a match, at the end of a line; nothing if none has a name.
 #[derive(Clone, Copy)]
 struct Players(Names);
 
@@ -41,7 +41,7 @@ impl Display for Players {
     }
 }
 
-/// Logs the progress of a party's match on the standard error (docs/OPERATING.md, "The log"), and
+/// Logs the progress of a party's match on standard error (docs/OPERATING.md, "The log"), and
 /// nothing if it is quiet.
 #[derive(Drop)]
 pub struct Logbook<'a> {

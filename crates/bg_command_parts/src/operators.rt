@@ -20,7 +20,7 @@ enum Saves {
     Succeeded,
 }
 
-/// The operator, who is told on the standard error how the match proceeds (docs/OPERATING.md,
+/// The operator, who is told on standard error how the match proceeds (docs/OPERATING.md,
 /// "Messages").
 #[derive(Drop)]
 pub struct Operator<'a, R> {
@@ -37,8 +37,8 @@ pub struct Operator<'a, R> {
 }
 
 impl<'a, R: Clock + Eprint> Operator<'a, R> {
-    /// Creates the operator of a match of `rounds` rounds in which nothing happened yet. Its
-    /// devices note their failures in `failures`, and its files are in `folder`.
+    /// Creates the operator of a match of `rounds` rounds in which nothing has happened yet. The
+    /// match's devices note their failures in `failures`, and its files are in `folder`.
     pub fn new(
         rt: &'a R,
         failures: &'a Failures,
@@ -57,8 +57,8 @@ impl<'a, R: Clock + Eprint> Operator<'a, R> {
         }
     }
 
-    /// Finishes, as the match is over. Reports the failures of devices that were not reported yet,
-    /// and names the parties whose saves all failed.
+    /// Ends the messages, as the match is over: reports the failures of devices that were not
+    /// reported yet, and names the parties whose saves all failed.
     pub fn end(&self) {
         self.reporter.say_failures();
         for (party, saves) in self.saves.iter().enumerate() {
@@ -68,8 +68,8 @@ impl<'a, R: Clock + Eprint> Operator<'a, R> {
         }
     }
 
-    /// Returns the party at which something happened last: where the match has stopped early, that
-    /// for which it did.
+    /// Returns the party of the last event. If the match stopped early, it is the party that
+    /// stopped it.
     pub fn last_party(&self) -> u8 {
         self.last_party
     }

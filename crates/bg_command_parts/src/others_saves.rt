@@ -26,8 +26,8 @@ impl Display for Owner {
     }
 }
 
-/// Refuses a folder for this player's seat that is the referee's, or has saves of the other player,
-/// and none of this one's.
+/// Refuses for this player's seat a folder that is a referee's, or has saves of the other player. A
+/// folder with saves of this player is never refused. Ends with `WrongArguments`.
 pub fn check_seat_folder(rt: &HostRuntime, folder: &str, player: Player) -> Result<(), Ending> {
     let (own, other) = (party_of(player), party_of(player.opponent()));
     if has_saves(rt, folder, own) {

@@ -1,4 +1,4 @@
-//! The saves of a party, and the messages where they are why it can't go on.
+//! The saves of a party, and the messages if it can't go on because of them.
 
 use crate::others_saves::Owner;
 use bg_console::{failed_barely, no_memory, say};
@@ -37,7 +37,7 @@ impl Display for MatchWords {
     }
 }
 
-/// The match that a party is to play, by what asks for it.
+/// The match that a party is to play, as it was asked for.
 #[derive(Clone, Copy)]
 pub enum Asked<'a> {
     /// That of a match file or a key file.
@@ -80,16 +80,16 @@ pub struct OwnSaves<'a> {
     pub asked: Asked<'a>,
 }
 
-/// Reports why a party is down for good, in a line of its own. The line before that says what to
-/// do and, where its saves are why, whose saves they are.
+/// Reports why a party is down for good, in a line of its own, and returns `Failed`. The line
+/// before that says what to do and, if its saves are the reason, whose saves they are.
 pub fn stopped(rt: &HostRuntime, saves: OwnSaves<'_>, outcome: &Outcome) -> Ending {
     say_remedy(rt, saves, outcome);
     let line = outcome_text(outcome);
     failed_barely(rt, line.as_str())
 }
 
-/// Reports what to do of a party that is down for good, and what is wrong with its saves, where
-/// they are why. Of a file that can't be read that has been reported.
+/// Reports what to do about a party that is down for good, and what is wrong with its saves if they
+/// are the reason. A file that can't be read was reported before.
 fn say_remedy(rt: &HostRuntime, saves: OwnSaves<'_>, outcome: &Outcome) {
     let (folder, owner) = (Printable(saves.folder), Owner(saves.party));
     match outcome {
@@ -116,7 +116,7 @@ fn say_remedy(rt: &HostRuntime, saves: OwnSaves<'_>, outcome: &Outcome) {
             );
         }
         Outcome::RestoreFault(RestoreCause::Device) => {}
-        // Nothing else ends a party but want of memory.
+        // Only lack of memory ends a party otherwise.
         _ => {
             let _ = no_memory(rt);
         }
@@ -179,7 +179,7 @@ impl Display for Remedy {
     }
 }
 
-/// Returns the latest save of a party in a folder; `None` where neither file holds a save.
+/// Returns the latest save of a party in a folder, or `None` if neither file holds one.
 fn newest_save(rt: &HostRuntime, folder: &str, party: u8) -> Option<Saved> {
     let zero = save_in(rt, folder, party, Slot::Zero);
     let one = save_in(rt, folder, party, Slot::One);

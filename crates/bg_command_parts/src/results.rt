@@ -86,7 +86,7 @@ pub struct Results {
 }
 
 impl Results {
-    /// Begins to follow a record behind its entries so far.
+    /// Begins to follow a record, after the entries that it has now.
     pub fn of(record: &Record) -> Results {
         Results {
             standing: record.standing(),
@@ -94,20 +94,20 @@ impl Results {
         }
     }
 
-    /// Returns the number of entries that were followed: behind a result, that of the entry that
-    /// ended the game.
+    /// Returns how many entries were followed. After [`next`](Results::next) has returned a result,
+    /// this is the number of the entry that ended the game.
     pub fn followed(&self) -> Number {
         self.followed
     }
 
-    /// Returns the result of the next game that has ended, between players with these names. A
-    /// record of a restarted party may hold less for a while.
+    /// Returns the result of the next game that has ended, between players with these names, or
+    /// `None` if no other game has. The record of a restarted party may hold less for a while.
     pub fn next(&mut self, record: &Record, names: &Names) -> Option<GameResult> {
         for before in self.followed..record.len() {
             let before_it = self.standing;
             let entry = record.entry(before.checked_add(1)?)?;
             if self.standing.apply(entry).is_err() {
-                // Another record than before: it is followed from here on.
+                // It is another record than before, and is followed from here on.
                 *self = Results::of(record);
                 return None;
             }

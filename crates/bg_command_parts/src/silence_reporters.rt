@@ -6,26 +6,25 @@ use bg_processes::{Liveness, LivenessChange, MatchFile, PartySocket};
 use bg_wire::REFEREE;
 use std::time::Clock;
 
-/// The message to a log where a referee that was heard is silent.
+/// The message to a log, if a referee that was heard is silent.
 const A_MINUTE: &str = "no word from the referee for a minute";
 
-/// The audience of the standard error, by which it depends what is told of a referee that isn't
-/// heard.
+/// Who reads standard error. What they are told of a silent referee depends on it.
 #[derive(Clone, Copy, PartialEq, Eq)]
 pub enum Audience {
-    /// Nobody, as the screen shows it.
+    /// Nobody, since the screen shows each silence.
     Nobody,
     /// A person at a terminal, who is told of each silence of three seconds.
     Person,
-    /// A log, which is told where the referee was never heard for three seconds, and later where it
-    /// isn't heard for a minute.
+    /// A log, which is told after three seconds if the referee was never heard, and otherwise after
+    /// a minute of silence.
     Log,
     /// A log in which a [`Logbook`](crate::Logbook) tells of that minute.
     LogWithLogbook,
 }
 
-/// Reports on the standard error that the referee of a match isn't heard, and that it is heard
-/// again (docs/OPERATING.md, "Messages").
+/// Reports on standard error that the referee of a match isn't heard, and that it is heard again
+/// (docs/OPERATING.md, "Messages").
 #[derive(Drop)]
 pub struct SilenceReporter<'a> {
     rt: &'a HostRuntime,
@@ -46,7 +45,8 @@ impl<'a> SilenceReporter<'a> {
         }
     }
 
-    /// Reports what has changed after a round over this socket, by the referee's liveness.
+    /// Reports what a round over this socket has changed, by the referee's liveness. Call it after
+    /// each round.
     pub fn after_round<C: Clock>(&mut self, socket: &PartySocket<'_, C>, liveness: &Liveness) {
         let was_heard = socket.heard() > 0;
         let is_told = liveness.is_silent()
@@ -67,7 +67,7 @@ impl<'a> SilenceReporter<'a> {
         }
     }
 
-    /// Reports a silence, and why it may be.
+    /// Reports a silence, and its likely reason.
     fn say_silence(&self, was_heard: bool) {
         let why = Silence::of(self.rt, &self.table);
         if was_heard && self.audience == Audience::Log {

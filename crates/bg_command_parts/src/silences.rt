@@ -1,14 +1,14 @@
-//! The reasons why nothing is heard of a referee, as far as the machine shows, and what to do.
+//! The reasons why nothing is heard from a referee, as far as the machine shows, and what to do.
 
 use bg_processes::MatchFile;
 use std::fmt::{Display, Formatter, Write};
 use std::{fmt, fs};
 
-/// The file of the system that lists the UDP sockets of the machine, one per line behind a line of
+/// The file of the system that lists the UDP sockets of the machine, one per line after a line of
 /// headings.
 const SOCKETS: &str = "/proc/net/udp";
 
-/// The reason why nothing may be heard of a referee.
+/// The reason why nothing may be heard from a referee.
 #[derive(Clone, Copy, PartialEq, Eq)]
 pub enum Silence {
     /// No process has its port, which is this one.
@@ -21,7 +21,7 @@ pub enum Silence {
 }
 
 impl Silence {
-    /// Returns why nothing may be heard of the referee of a match.
+    /// Returns why nothing may be heard from the referee of a match.
     pub fn of(rt: &HostRuntime, table: &MatchFile) -> Silence {
         match fs::read_to_string(rt, SOCKETS) {
             Ok(listed) if has_port(listed.as_str(), table.port) => {

@@ -10,7 +10,7 @@ use std::io::ErrorKind;
 /// The number of the last party, and so the number of ports that a match has above its own.
 const LAST_PARTY: u32 = 255;
 
-/// The words of the message on a port that is taken, between the numbers and behind them.
+/// The words of the message on a port that is taken, between the numbers and after them.
 const RUNNING_OR: &str = "running already, or a match whose ports begin at";
 
 const END_IT: &str = "End that process first";
@@ -18,8 +18,8 @@ const END_IT: &str = "End that process first";
 /// The words on what a socket needs.
 const OPEN_FILES: &str = "it needs a loopback address, and room for open files (`ulimit -n`)";
 
-/// Opens the socket of a party of the match that has this port, with its keys. Later failures are
-/// noted in `failures`. Ends with `Failed` where the port is taken, or there is no socket.
+/// Opens the socket of a party of the match that has this port, with its keys. The socket notes
+/// later failures in `failures`. Ends with `Failed` where the port is taken, or there is no socket.
 pub fn socket_of<'a>(
     rt: &'a HostRuntime,
     port: u16,
@@ -54,7 +54,7 @@ fn holder_of(party: u8) -> &'static str {
     }
 }
 
-/// Reports that the system gives a party no socket, and why.
+/// Reports that the system gives a party no socket, and why, and returns `Failed`.
 pub fn no_socket(rt: &HostRuntime, party: u8, error: &io::Error) -> Ending {
     failed(
         rt,

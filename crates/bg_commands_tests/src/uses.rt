@@ -50,7 +50,7 @@ fn a_transcript_grows(rt: HostRuntime) -> Result<(), Fail> {
     let less = Record::new(alloc, 0, 1, Rules::One)?;
     assert!(rt; telling.go_on(&rt, &less) == Ok(false));
     assert!(rt; telling.go_on(&rt, &record) == Ok(false));
-    // What a command ends with where a folder can't be used, which is said on the standard error.
+    // A folder that can't be used is reported on standard error, and the command ends so.
     let refused = check_folder(&rt, "no such folder", " is no folder");
     assert!(rt; refused == Err(Ending::WrongArguments));
     // end
@@ -74,7 +74,7 @@ fn no_saved_files_are_shown(rt: HostRuntime) -> Result<(), Fail> {
 fn a_party_stops(rt: HostRuntime) -> Result<(), Fail> {
     let folder = "x";
     // bg_command_parts
-    // A party that can't save is down, and why is said on the standard error, with what to do.
+    // A party that can't save any more is down: a message says why, and what to do.
     let saves = OwnSaves {
         folder,
         party: REFEREE,

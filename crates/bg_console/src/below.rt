@@ -5,10 +5,10 @@ use std::alloc::Global;
 use std::io::ErrorKind;
 use std::{fs, io};
 
-/// Number of levels that are searched below a folder that is named.
+/// Number of levels that are searched below a named folder.
 const MOST_DEEP: u8 = 3;
 
-/// The message behind the name of a folder without a match.
+/// The message after the name of a folder without a match.
 pub const NO_MATCH: &str = " has no match, nor has a folder at most three folders deep in it";
 
 /// What a search finds of a match.
@@ -16,25 +16,25 @@ pub const NO_MATCH: &str = " has no match, nor has a folder at most three folder
 pub enum Finding {
     /// The folder of its referee.
     Match,
-    /// The folder of a key file of those who watch, and of no match file.
+    /// A folder with a key file of the watchers, and no match file.
     WatchKey,
     /// A folder that can't be read, and the reason.
     Unread(io::Error),
 }
 
-/// A folder that was found.
+/// A folder that was found, by its path: this begins with the folder that was searched.
 #[derive(Drop)]
 pub struct MatchBelow {
     pub path: String,
     pub finding: Finding,
 }
 
-/// Returns the folders that have a match file or a key file of those who watch, or can't be read,
-/// among a folder and those below it, sorted by name. A folder with a match file is not searched,
-/// and links to folders are not followed.
+/// Returns the folders that have a match file or a key file of the watchers, or can't be read,
+/// among a folder and those up to three levels below it, sorted by path. A folder with a match file
+/// is not searched, and links to folders are not followed.
 ///
 /// # Errors
-/// `OutOfMemory` alone.
+/// Only `OutOfMemory`.
 pub fn matches_below(rt: &HostRuntime, folder: &str) -> io::Result<Vec<MatchBelow>> {
     let mut found = Vec::new(rt.alloc());
     let mut level = Vec::new(rt.alloc());

@@ -5,12 +5,13 @@ use std::alloc::{AllocError, Global};
 /// The start of the line of a player's offers.
 pub(crate) const TURN: &[u8] = b"your turn, ";
 
-/// Returns the lines broken between words, each of at most this number of columns. Lines that fit
-/// stay as they are. A longer word has a line of its own. The words of an offer to a player stay
-/// together if a line has room for them.
+/// Returns the lines broken between words, each of at most this number of columns; a byte counts as
+/// one. Lines that fit stay as they are, and a longer word gets a line of its own. The words of an
+/// offer to a player stay together if a line has room for them. White space at the end of the last
+/// line is dropped, and each line ends with a line feed.
 ///
 /// # Errors
-/// AllocError where there is no memory for them.
+/// `AllocError` where memory runs out.
 pub fn broken(alloc: Global, lines: &[u8], columns: usize) -> Result<Vec<u8>, AllocError> {
     let mut text = Vec::new(alloc);
     for line in lines.trim_ascii_end().split(|byte| *byte == b'\n') {

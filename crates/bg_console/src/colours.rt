@@ -51,8 +51,8 @@ fn shows_checkers(line: &[u8]) -> bool {
         || line.iter().all(|byte| OF_POINTS.contains(byte))
 }
 
-/// Appends a line of a board. Each mark of a checker has the look of its player, with the number
-/// behind it.
+/// Appends a line of a board. Each mark of a checker, with the number after it, gets the look of
+/// its player.
 fn put_checkers(out: &mut Vec<u8>, line: &[u8], bold: Player) -> Result<(), AllocError> {
     let bold_mark = letter(bold).as_bytes();
     let mut is_marked = false;

@@ -10,7 +10,8 @@ use std::fs;
 /// What to do with a key file of another match.
 const OTHER_MATCH: &str = "put the file of this match in its place, or name another folder";
 
-/// Returns whether a referee's folder has a secret that its keys are derived from.
+/// Returns whether a referee's folder has a secret that its keys are derived from. Ends with
+/// `Failed` where memory runs out.
 pub fn has_key_secret(rt: &HostRuntime, folder: &str) -> Result<bool, Ending> {
     let Ok(path) = format!(in rt.alloc(); "{folder}/key-secret") else {
         return Err(no_memory(rt));
@@ -18,7 +19,7 @@ pub fn has_key_secret(rt: &HostRuntime, folder: &str) -> Result<bool, Ending> {
     Ok(fs::symlink_metadata(rt, path.as_str()).is_ok())
 }
 
-/// Returns the key files in a referee's folder without a secret of keys; `None` where it has no key
+/// Returns the key files in a referee's folder without a secret of keys, or `None` if it has no key
 /// files at all. Ends with `WrongArguments` where some are missing, or one is another party's or
 /// another match's, and with `Failed` where one can't be read.
 pub fn key_files_of(
@@ -72,7 +73,7 @@ fn key_file_in(
     ))
 }
 
-/// Returns the key file of a party of this match in a folder; `None` where it is missing.
+/// Returns the key file of a party of this match in a folder, or `None` if it is missing.
 fn found_in(
     rt: &HostRuntime,
     folder: &str,

@@ -7,13 +7,13 @@ use bg_system::{KeyFile, MatchFile, NamedMatch, Printable, name_of_key_file};
 use bg_wire::{SEAT_OF_O, SEAT_OF_X, party_of};
 use std::{fs, io};
 
-/// The message on a path without a character.
+/// The message on an empty path.
 const NO_NAME: &str = "the name of a file is empty";
 
 /// The message on a file that can't be read.
 const UNREAD: &str = " could not be read";
 
-/// The message on a key file of those who watch, where a seat's is asked for.
+/// The message on a key file of the watchers, where a seat's is asked for.
 const OF_NO_SEAT: &str =
     " is the key file of the watchers: for a player it is `match-x` or `match-o`";
 
@@ -24,8 +24,8 @@ const NO_MATCH_FILE: &str =
 const NO_KEY_FILE: &str =
     " is no key file: name the one that `bg_relay new` made for this party, or a copy of it";
 
-/// The messages on what to do where the match file of a referee can't be read, any file of the
-/// match that was handed out, or the key file of a party.
+/// What to do if a file can't be read: the match file of a referee, any file of the match that was
+/// handed out, or the key file of a party.
 const OF_REFEREE: &str =
     "name the folder that `bg_relay new` made; if its file `match` is lost, any key file of the match, without its last line, is one";
 
@@ -72,9 +72,9 @@ pub fn key_file_of(rt: &HostRuntime, path: &str, party: u8) -> Result<KeyFile, E
     }
 }
 
-/// Reads the key file of a seat at a path: that of this player, or that of any where it is `None`.
-/// Returns its player too. Ends with `WrongArguments` where it is another party's or isn't one, and
-/// with `Failed` where it can't be read.
+/// Reads the key file of a seat at a path: that of this player, or of either player if it is
+/// `None`. Returns its player too. Ends with `WrongArguments` where it is another party's or isn't
+/// one, and with `Failed` where it can't be read.
 pub fn seat_key_file_of(
     rt: &HostRuntime,
     path: &str,

@@ -1,6 +1,6 @@
-//! The common parts of the program's commands: messages and progress on the standard error, output
-//! of a growing record, files kept for others, and startup. For a program whose commands end early
-//! with an [`Ending`](bg_reports::Ending) once the reason has been reported.
+//! What the program's commands share: messages and progress on standard error, output of a growing
+//! record, files kept for others, and startup. A command that can't go on reports why, and ends
+//! with an [`Ending`](bg_reports::Ending).
 //!
 //! ```
 //! // A record is printed as a transcript, entry by entry.
@@ -13,7 +13,7 @@
 //! let less = Record::new(alloc, 0, 1, Rules::One)?;
 //! assert!(rt; telling.go_on(&rt, &less) == Ok(false));
 //! assert!(rt; telling.go_on(&rt, &record) == Ok(false));
-//! // What a command ends with where a folder can't be used, which is said on the standard error.
+//! // A folder that can't be used is reported on standard error, and the command ends so.
 //! let refused = check_folder(&rt, "no such folder", " is no folder");
 //! assert!(rt; refused == Err(Ending::WrongArguments));
 //! ```

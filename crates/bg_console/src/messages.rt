@@ -1,4 +1,4 @@
-//! The messages on the standard error (docs/OPERATING.md, "Messages"), and the endings that go with
+//! The messages on standard error (docs/OPERATING.md, "Messages"), and the endings that go with
 //! them.
 
 pub(crate) mod progress;
@@ -13,7 +13,7 @@ use std::fmt::Display;
 use std::io;
 use std::io::ErrorKind;
 
-/// The message for want of memory, and those on an input that can't be read.
+/// The message for lack of memory, and those on an input that can't be read.
 const NO_MEMORY: &str =
     "out of memory: end other programs, or allow this one more (`ulimit -v`), and start it again";
 
@@ -21,7 +21,7 @@ const NO_INPUT: &str = "the input could not be read";
 
 const OTHER_INPUT: &str = "; give it a file or a terminal that can be read, and run it again";
 
-/// Reports that reading, writing or memory failed.
+/// Reports that reading, writing or memory failed, and returns `Failed`.
 pub fn failed<D: Display + Drop>(rt: &impl Eprint, message: D) -> Ending {
     say(rt, message);
     Ending::Failed
@@ -49,12 +49,13 @@ pub fn engine_failed(
     }
 }
 
-/// Reports that there was no memory.
+/// Reports that memory ran out.
 pub fn no_memory(rt: &impl Eprint) -> Ending {
     failed(rt, NO_MEMORY)
 }
 
-/// Returns the result of an attempt that needs memory. Reports where there was none.
+/// Returns the result of an attempt that needs memory. Ends with `Failed`, and reports it, where
+/// memory ran out.
 pub fn allocated<T>(rt: &impl Eprint, attempt: Result<T, AllocError>) -> Result<T, Ending> {
     match attempt {
         Ok(made) => Ok(made),
@@ -62,14 +63,14 @@ pub fn allocated<T>(rt: &impl Eprint, attempt: Result<T, AllocError>) -> Result<
     }
 }
 
-/// Reports that this failed, and why. Then what to do, where a right or room is missing.
+/// Reports that this failed, and why. Then it says what to do, if a right or room is missing.
 pub fn failed_for(rt: &impl Eprint, what: &str, reason: &io::Error) -> Ending {
     let remedy = remedy_of(reason);
     failed(rt, format_args!("{what}: {reason}{remedy}"))
 }
 
-/// Reports that this failed, and why. Then what to do: how to get the right or the room that is
-/// missing, and else this.
+/// Reports that this failed, and why. Then it says what to do: how to get the right or the room
+/// that is missing, or else this remedy.
 pub fn failed_or(rt: &impl Eprint, what: &str, reason: &io::Error, remedy: &str) -> Ending {
     let known = remedy_of(reason);
     let remedy = if known.is_empty() { remedy } else { known };
@@ -77,14 +78,14 @@ pub fn failed_or(rt: &impl Eprint, what: &str, reason: &io::Error, remedy: &str)
 }
 
 /// Reports that reading, writing or locking a file or a folder failed, with its name, these words
-/// and the reason. Then what to do, where a right or room is missing.
+/// and the reason. Then it says what to do, if a right or room is missing.
 pub fn failed_at(rt: &impl Eprint, path: &str, words: &str, reason: &io::Error) -> Ending {
     say_why(rt, path, words, reason);
     Ending::Failed
 }
 
-/// Reports as [`failed_at`], and then what to do by a line of its own, unless the first line says
-/// that.
+/// Reports the same as [`failed_at`], and then what to do, in a line of its own, unless the first
+/// line says that.
 pub fn failed_with(
     rt: &impl Eprint,
     path: &str,
@@ -99,8 +100,8 @@ pub fn failed_with(
     Ending::Failed
 }
 
-/// Reports that the output could not be written, and why. Nothing is reported where nobody reads it
-/// any more, as behind `head`.
+/// Reports that the output could not be written, and why, and returns `Failed`. It reports nothing
+/// if nobody reads the output any more, as with `head`.
 pub fn unwritten(rt: &impl Eprint, error: &io::Error) -> Ending {
     if error.kind() == ErrorKind::BrokenPipe {
         return Ending::Failed;
@@ -108,7 +109,7 @@ pub fn unwritten(rt: &impl Eprint, error: &io::Error) -> Ending {
     failed_for(rt, "the output could not be written", error)
 }
 
-/// Returns the result of writing. Reports where that failed.
+/// Returns the result of writing. Ends with `Failed`, and reports why, where that failed.
 pub fn written<T>(rt: &impl Eprint, attempt: io::Result<T>) -> Result<T, Ending> {
     match attempt {
         Ok(done) => Ok(done),
@@ -121,7 +122,7 @@ pub fn unread(rt: &impl Eprint, error: &io::Error) -> Ending {
     failed_or(rt, NO_INPUT, error, OTHER_INPUT)
 }
 
-/// Reports why the arguments are refused.
+/// Reports why the arguments are refused, and returns `WrongArguments`.
 pub fn wrong<D: Display + Drop>(rt: &impl Eprint, message: D) -> Ending {
     say(rt, message);
     Ending::WrongArguments

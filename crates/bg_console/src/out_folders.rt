@@ -8,7 +8,7 @@ use std::io::ErrorKind;
 /// The message on a folder that can't be used.
 const NOT_USED: &str = " can't be used: name another folder, or give the right to enter it";
 
-/// Refuses what isn't a folder, and says what to do if it is missing.
+/// Refuses what isn't a folder, or is missing, and says what to do. Ends with `WrongArguments`.
 pub fn check_out_folder(rt: &HostRuntime, folder: &str) -> Result<(), Ending> {
     match fs::metadata(rt, folder) {
         Ok(found) if found.is_dir() => Ok(()),

@@ -1,4 +1,4 @@
-//! The names of a match's players, for people who look on.
+//! The names of a match's players, for people who watch.
 
 use crate::messages::allocated;
 use bg_picture::PageWords;
@@ -10,7 +10,7 @@ use std::fmt::{Display, Formatter, Write};
 /// The title of a page that is given none, for a match whose players don't both have names.
 const USUAL_TITLE: &str = "Backgammon match";
 
-/// A player by name and letter, `Anna (X)`, or by letter alone where there is no name.
+/// A player by name and letter, `Anna (X)`, or by letter alone if there is no name.
 #[derive(Clone, Copy)]
 pub struct Called {
     letter: char,
@@ -18,7 +18,7 @@ pub struct Called {
 }
 
 impl Called {
-    /// Returns player X.
+    /// Returns player X, with the name that these have.
     pub fn x(names: &Names) -> Called {
         Called {
             letter: 'X',
@@ -26,7 +26,7 @@ impl Called {
         }
     }
 
-    /// Returns player O.
+    /// Returns player O, with the name that these have.
     pub fn o(names: &Names) -> Called {
         Called {
             letter: 'O',
@@ -66,7 +66,7 @@ impl Display for Pairing {
     }
 }
 
-/// Returns the name of a player, or this word where there is no name.
+/// Returns the name of a player, or this word if there is no name.
 fn word_for<'a>(name: &'a Option<Name>, word: &'a str) -> &'a str {
     match name {
         Some(name) => name.as_str(),
@@ -83,8 +83,8 @@ pub fn page_words<'a>(title: &'a str, names: &'a Names) -> PageWords<'a> {
     }
 }
 
-/// Returns the title of a page: the one that is given, else the names of both players, else the
-/// usual one. Ends with `Failed` where there is no memory for it.
+/// Returns the title of a page: the one that is given, or else the names of both players, or else
+/// the usual one. Ends with `Failed` where memory runs out.
 pub fn title_of(rt: &HostRuntime, given: Option<&str>, names: &Names) -> Result<String, Ending> {
     if let Some(title) = given {
         return allocated(rt, String::from_str(rt.alloc(), title));

@@ -26,13 +26,13 @@ pub fn slot_path(alloc: Global, folder: &str, party: u8, slot: Slot) -> Result<S
     format!(in alloc; "{folder}/{name}")
 }
 
-/// Returns the name of a folder without the slashes at its end.
+/// Returns the name of a folder without the slashes at its end; that of the root stays `/`.
 pub fn without_slashes(folder: &str) -> &str {
     let name = folder.trim_end_matches('/');
     if name.is_empty() { "/" } else { name }
 }
 
-/// Returns the folder of the file with this path.
+/// Returns the folder of the file with this path: `.` if the path has no slash.
 pub fn folder_of(path: &str) -> &str {
     match path.rsplit_once('/') {
         Some(("", _)) => "/",
@@ -41,10 +41,10 @@ pub fn folder_of(path: &str) -> &str {
     }
 }
 
-/// Returns the error, unless it is want of memory.
+/// Returns the error, unless it is lack of memory.
 ///
 /// # Errors
-/// `OutOfMemory` alone.
+/// Only `OutOfMemory`.
 pub fn not_memory(error: io::Error) -> io::Result<io::Error> {
     match error.kind() {
         ErrorKind::OutOfMemory => Err(error),

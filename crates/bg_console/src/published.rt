@@ -30,8 +30,8 @@ pub struct Outputs<'a> {
     pub words: PageWords<'a>,
     /// The numbering of the page's points.
     pub numbering: Numbering,
-    /// Whether a file that can't be written is reported once, and left alone until it can be. If
-    /// not, the command ends.
+    /// Whether the command goes on, after one report, until all files can be written again. If not,
+    /// it ends at the first file that can't be written.
     pub goes_on: bool,
 }
 
@@ -88,9 +88,10 @@ impl<'a> Published<'a> {
         self.is_failing
     }
 
-    /// Rewrites the files where they are old, and enough time has passed. It is called after each
-    /// round, which brought news or not, and in which a tick was due or not. Until the referee was
-    /// heard, an existing file is left as it is, as it may have more.
+    /// Rewrites the files if they are old and enough time has passed. Call it after each round:
+    /// `news` says whether that brought entries, and `tick` whether a tick was due. Until the
+    /// referee was heard, an existing file stays as it is, since it may have more. Ends as
+    /// [`write`](Published::write).
     pub fn after_round(
         &mut self,
         rt: &HostRuntime,
@@ -110,8 +111,9 @@ impl<'a> Published<'a> {
         self.write(rt, record, is_heard)
     }
 
-    /// Writes the record to the requested files, where they lack some of it. Where the referee was
-    /// not heard, it writes only those that don't exist.
+    /// Writes the record to the requested files, if they lack some of it. If the referee was not
+    /// heard, it writes only those that don't exist. Ends with `Failed` where memory runs out, or a
+    /// file can't be written and `goes_on` is not set.
     pub fn write(
         &mut self,
         rt: &HostRuntime,
@@ -146,8 +148,8 @@ impl<'a> Published<'a> {
         Ok(())
     }
 
-    /// Writes a text to a file. Reports where it can't, except for files that failed the last time
-    /// too. Then the command ends, unless `goes_on` is set.
+    /// Writes a text to a file. Reports if it can't, unless another file, or any file the last
+    /// time, could not be written either. After a report the command ends, unless `goes_on` is set.
     fn put(
         &mut self,
         rt: &HostRuntime,
@@ -171,7 +173,7 @@ impl<'a> Published<'a> {
         }
     }
 
-    /// Returns the page of a record, of which browsers ask for a newer one until its match is over.
+    /// Returns the page of a record. Until its match is over, browsers ask for a newer one.
     fn page_of(&self, alloc: Global, record: &Record) -> Result<Vec<u8>, AllocError> {
         let seconds = match record.standing().phase() {
             Phase::Over(_) => 0,

@@ -23,16 +23,15 @@ pub struct Terminal {
     pub has_colours: bool,
 }
 
-/// Returns the number of columns of the standard output, where it is a terminal. It is that of the
-/// environment variable COLUMNS, and else 80, since the standard library has no call that asks the
-/// terminal.
+/// Returns the number of columns of standard output, if it is a terminal: that of the environment
+/// variable COLUMNS, or else 80, since the standard library has no call that asks the terminal.
 pub fn columns(rt: &HostRuntime) -> Option<usize> {
     Some(output_terminal(rt)?.columns)
 }
 
-/// Returns what the environment says of the standard output, where it is a terminal. Its columns
-/// and lines are those of COLUMNS and LINES, and else 80 and 24. One of the kind `dumb`, by TERM,
-/// knows no sequences, and has no colours. No terminal has colours where NO_COLOR is not empty.
+/// Returns what the environment says about standard output, if it is a terminal. Its columns and
+/// lines are those of COLUMNS and LINES, or else 80 and 24. If TERM is `dumb`, it knows no
+/// sequences and has no colours. If NO_COLOR is not empty, it has no colours.
 pub fn output_terminal(rt: &HostRuntime) -> Option<Terminal> {
     if !rt.stdout().is_terminal() {
         return None;

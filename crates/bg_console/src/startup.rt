@@ -77,8 +77,8 @@ pub fn tell_if_open(rt: &HostRuntime, folder: &str) {
     }
 }
 
-/// Refuses what isn't a folder, or isn't there, with these words behind its name. Ends with
-/// `WrongArguments`, also where nobody can look at it.
+/// Refuses what isn't a folder or is missing, with these words after its name. Ends with
+/// `WrongArguments`, also where the system can't look at it.
 pub fn check_folder(rt: &HostRuntime, folder: &str, words: &str) -> Result<(), Ending> {
     if folder.is_empty() {
         return Err(wrong(rt, "the name of a folder is empty"));
@@ -92,12 +92,12 @@ pub fn check_folder(rt: &HostRuntime, folder: &str, words: &str) -> Result<(), E
     }
 }
 
-/// The name of the folder that is created and removed again to see whether a folder can be written
-/// to. One that a killed process has left is removed by the next.
+/// The name of the folder that is created and removed again, to see whether a folder can be written
+/// to. If a killed process has left one, the next process removes it.
 const TRIAL: &str = ".bg_relay-trial";
 
-/// Refuses a folder in which the process may create nothing, as nothing could be saved there. Ends
-/// with `WrongArguments`.
+/// Refuses a folder in which the process may create nothing, since nothing could be saved there.
+/// Ends with `WrongArguments`.
 pub fn check_writable(rt: &HostRuntime, folder: &str) -> Result<(), Ending> {
     let Ok(trial) = format!(in rt.alloc(); "{folder}/{TRIAL}") else {
         return Err(no_memory(rt));
@@ -126,8 +126,8 @@ pub fn check_writable(rt: &HostRuntime, folder: &str) -> Result<(), Ending> {
     }
 }
 
-/// Returns the wait for a party's socket, and for standard input if that is wanted, and the party's
-/// ticks.
+/// Returns the wait for a party's socket, and for standard input if `with_input` is set, and the
+/// party's ticks. Ends with `Failed` where the socket can't be waited for.
 pub fn waiting_for(
     rt: &HostRuntime,
     socket: RawFd,
@@ -138,7 +138,8 @@ pub fn waiting_for(
     Ok((waiting, ticking))
 }
 
-/// Returns the result of waiting. Reports where the socket can't be waited for.
+/// Returns the result of waiting. Ends with `Failed`, and reports why, where the socket can't be
+/// waited for.
 pub fn waited<T>(rt: &HostRuntime, attempt: io::Result<T>) -> Result<T, Ending> {
     match attempt {
         Ok(next) => Ok(next),

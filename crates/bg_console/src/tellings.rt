@@ -12,7 +12,7 @@ use std::io::Write;
 /// Prints a record as a transcript, entry by entry.
 #[derive(Drop)]
 pub struct Telling {
-    /// Number of entries that were printed, if the first line was.
+    /// Number of entries that were printed, if the length line was.
     told: Option<Number>,
 }
 
@@ -22,8 +22,9 @@ impl Telling {
         Telling { told: None }
     }
 
-    /// Prints the entries that were not printed yet, and the first line before the first of them.
-    /// Returns whether there were any. Reports why where they can't be printed.
+    /// Prints the entries that were not printed yet; the first call prints the length line before
+    /// them. Returns whether there were any. Ends with `Failed`, and reports why, where they can't
+    /// be printed.
     pub fn go_on<R>(&mut self, rt: &R, record: &Record) -> Result<bool, Ending>
     where
         R: Print + Eprint + AllocGlobal,
@@ -49,7 +50,10 @@ impl Telling {
     }
 }
 
-/// Appends the lines of the entries behind the first `behind` ones to a text.
+/// Appends to a text the lines of the entries after the first `behind` ones.
+///
+/// # Errors
+/// `OutOfMemory` where memory runs out.
 pub fn put_entries(text: &mut Vec<u8>, log: &Record, behind: Number) -> io::Result<()> {
     for before in behind..log.len() {
         put_line(text, log, before + 1)?;
@@ -69,17 +73,23 @@ fn put_line(text: &mut Vec<u8>, log: &Record, number: Number) -> io::Result<()>
 }
 
 /// Prints the board of a record.
+///
+/// # Errors
+/// `OutOfMemory` where there is no memory for the board, and otherwise why it can't be printed.
 pub fn print_board<R: Print + AllocGlobal>(rt: &R, record: &Record) -> io::Result<()> {
     let text = board_text(rt.alloc(), &record.standing())?;
     write_out(rt, &text)
 }
 
-/// Prints a text. Reports why where it can't.
+/// Prints a text. Ends with `Failed`, and reports why, where it can't be printed.
 pub fn print_text(rt: &(impl Print + Eprint), text: &[u8]) -> Result<(), Ending> {
     written(rt, write_out(rt, text))
 }
 
 /// Prints bytes, and flushes them.
+///
+/// # Errors
+/// Why they can't be printed.
 pub fn write_out<R: Print>(rt: &R, text: &[u8]) -> io::Result<()> {
     let mut output = io::writer(rt);
     output.write_all(text)?;

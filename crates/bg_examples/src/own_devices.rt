@@ -178,8 +178,8 @@ pub enum BeginFault {
     Restart(u8, Outcome),
 }
 
-/// Returns a world over the files of a folder. The parties that save restart from their files: so a
-/// later process continues the match, and the first one begins it.
+/// Returns a world over the files of a folder. The parties that save restart from their files, so
+/// the first process begins the match, and a later one continues it.
 pub fn world_over<'a, R: Files<File = File> + AllocGlobal>(
     rt: &'a R,
     folder: &str,

@@ -11,7 +11,7 @@ use std::alloc::Global;
 use std::collections::VecDeque;
 use std::mem;
 
-/// An inbox of bytes and an outbox of datagrams, and beside them what contracts read.
+/// An inbox of bytes and an outbox of datagrams, beside what contracts read.
 #[derive(Drop)]
 pub struct PostLink {
     alloc: Global,

@@ -23,8 +23,10 @@ fn name_of(alloc: Global, folder: &str, party: u8, ending: &str) -> Result<Strin
 }
 
 impl<'a, R: Files<File = File> + AllocGlobal> SlotFiles<'a, R> {
-    /// Opens the files `party-P.0` and `party-P.1` of the folder. Fails where another process has
-    /// them.
+    /// Opens the files `party-P.0` and `party-P.1` of a folder, for the party P.
+    ///
+    /// # Errors
+    /// Why they can't be opened, such as another process that has them.
     pub fn open(rt: &'a R, folder: &str, party: u8) -> io::Result<SlotFiles<'a, R>> {
         let alloc = rt.alloc();
         let lock = File::create(rt, &name_of(alloc, folder, party, "lock")?)?;

@@ -10,12 +10,12 @@ use bg_streams::History;
 use bg_wire::Slot;
 use std::alloc::Global;
 
-/// A keeper in memory behind a fence, which is honest. Any number of nodes of a party may share it:
-/// each call is handed it.
+/// An honest keeper in memory behind a fence. Any number of nodes of a party may share it: each of
+/// their calls is given it.
 ///
 /// A write succeeds only with the text of the save after the one that the slots restore, and only
-/// to the slot of that save. It answers `Failed` to any other bytes, and `Memory` where there is
-/// none to read the texts or to keep this one; then the slots are as they were.
+/// to the slot of that save. It fails with `Failed` for any other bytes, and with `Memory` if there
+/// is none to read the texts or to keep this one; then the slots are as they were.
 #[derive(Drop)]
 pub struct FencedMemoryKeeper {
     alloc: Global,
@@ -29,7 +29,8 @@ pub struct FencedMemoryKeeper {
 impl FencedMemoryKeeper {
     ghost use Rattle.bg_fences.specs.FencedMemory.{fenced_slots};
 
-    /// Returns a keeper whose slots have these bytes, none before the first save of its party.
+    /// Returns a keeper whose slots have these bytes. Before the first save of its party they have
+    /// none.
     pub fn new(alloc: Global, zero: Vec<u8>, one: Vec<u8>) -> FencedMemoryKeeper
         ensures { fenced_slots result ≡ record { zero = zero.items; one = one.items } }
     {

@@ -7,9 +7,8 @@ use crate::FencedKeeper;
 use bg_protocol::{Outcome, RefereeNode, SeatNode};
 
 /// Saves what a node of the referee holds, over a keeper that other nodes of the referee may share.
-/// It does what [`RefereeNode::save`] does, and the save passes the fence or is refused. Then the
-/// outcome is `SaveFault`, and the node is down. Once it is restarted, it goes on from the newer
-/// save.
+/// It does what [`RefereeNode::save`] does, except that the fence may refuse the save. Then the
+/// outcome is `SaveFault`, and the node is down; after a restart it goes on from the newer save.
 pub fn save_referee<K: FencedKeeper>(referee: &mut RefereeNode, keeper: &mut K) -> Outcome
     ensures saves { RefereeNodeSaves K.is_honest (keeper_view K.Keeper keeper.old) (referee_node_of referee.old) result
         (keeper_view K.Keeper keeper.new) (referee_node_of referee.new) }

@@ -19,16 +19,16 @@ ghost use Rattle.bg_protocol.specs.declared.events.Outcome.{Outcome};
 
 /// States that processes behind a fence agree, whatever calls they make, in any order, and however
 /// old what they hold is. What is settled is one legal match, and all that any process has told,
-/// saved or learned is a front of it.
+/// saved or learned is a prefix of it.
 pub fn fenced_processes_agree()
     ensures headline { (m : SharedMatch) → IsReachedByProcesses m → FencedHeadline m }
-    // A process whose last save is the newest is as the only one of its party.
+    // A process whose last save is the newest is like the only one of its party.
     ensures newest { (m : SharedMatch) → IsReachedByProcesses m → HoldsOfNewest m }
     ensures words { (m : SharedMatch) (reached : IsReachedByProcesses m)
         → ShowsWordsHandedIn m (events_of reached.history) }
 {}
 
-/// States the same of nodes, any number for each party, each over honest devices of its own: they
+/// States the same of any number of nodes for each party, each over honest devices of its own: they
 /// share one network, and one store with such a fence. A restart may find each slot as it was at
 /// any earlier moment.
 pub fn fenced_nodes_agree()
@@ -38,7 +38,8 @@ pub fn fenced_nodes_agree()
 
 /// States that a save by [`save_referee`](crate::save_referee) or [`save_seat`](crate::save_seat)
 /// is a call of the nodes of [`fenced_nodes_agree`], where the keeper is honest, keeps the fence,
-/// and has the slots that the party's nodes share. What these calls ensure is all that is asked.
+/// and has the slots that the party's nodes share. What these calls ensure is all that the law asks
+/// of them.
 pub fn fenced_saves_are_calls()
     ensures referee { (moments : List SharedNodes) (m : SharedNodes) (core : Option RefereeView) (cores : List (Option RefereeView))
         (old new : KeeperView) (after : RefereeNodeView) (outcome : Outcome)

@@ -1,7 +1,7 @@
-//! Any number of processes of each party at once, over one store with a fence. A save is taken only
-//! where its number is one more than that of the newest (docs/PROTOCOL.md, "Many processes of one
-//! party"). For hosts that run many servers over one store. It has the laws, keepers with such a
-//! fence, and the saves of nodes over them.
+//! Lets any number of processes of each party run at once, over one store with a fence. The fence
+//! takes a save only if its number is one more than that of the newest (docs/PROTOCOL.md, "Many
+//! processes of one party"). For hosts that run many servers over one store. Here are the laws,
+//! keepers with such a fence, and the saves of nodes over them.
 //!
 //! ```
 //! let terms = Terms {

@@ -53,7 +53,7 @@ impl MemorySlots {
         }
     }
 
-    /// Returns the number of the save that the slots restore, or 0 where they restore nothing.
+    /// Returns the number of the save that the slots restore, or 0 if they restore none.
     fn newest(&self, alloc: Global) -> Result<u32, DeviceFault>
         ensures { TellsNewest self.now result }
     {
@@ -62,7 +62,8 @@ impl MemorySlots {
         Ok(zero.max(one))
     }
 
-    /// Writes the text of the next save to its slot, and refuses any other bytes.
+    /// Writes the text of the next save to its slot, and refuses any other bytes and the other slot
+    /// with `Failed`. After an error the slots are as they were.
     pub(crate) fn write_next(
         &mut self,
         alloc: Global,
@@ -81,7 +82,7 @@ impl MemorySlots {
     }
 }
 
-/// Returns the number of the save whose text these bytes are, or 0 where they are no saved text.
+/// Returns the number of the save whose text these bytes are, or 0 if they are no saved text.
 fn told_number(alloc: Global, bytes: &[u8]) -> Result<u32, DeviceFault>
     ensures { TellsNumber bytes.now result }
 {

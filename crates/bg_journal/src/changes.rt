@@ -24,7 +24,7 @@ pub enum Newest<'a> {
     Text(&'a [u8]),
     /// It is gone.
     Gone,
-    /// None of them is about it.
+    /// No change is about it.
     Unchanged,
 }
 
@@ -41,7 +41,8 @@ pub fn newest_of<'a>(changes: &'a [Change], name: &str) -> Newest<'a> {
     newest
 }
 
-/// Returns whether the file with this name is in the folder of that one.
+/// Returns whether a file is in a folder, by their names: `a/1` is in `a`. The name of a folder has
+/// no slash, so nothing is in `a/b`.
 pub fn is_below(file: &str, folder: &str) -> bool {
     match file.split_once('/') {
         Some((first, _)) => first == folder,

@@ -5,18 +5,18 @@ use sqlite::types::ValueRef;
 use sqlite::{Connection, Error, File, FileStore, Row, params};
 use std::alloc::Global;
 
-/// The table of the journal: each file by its name, below the folder that all files are in.
+/// The table of the journal. A file's name is its path below the folder that all files are in.
 const TABLE: &str =
     "CREATE TABLE IF NOT EXISTS file (name TEXT PRIMARY KEY, text BLOB NOT NULL) STRICT";
 
-/// Puts the text of a file in the place of an older one.
+/// Inserts the text of a file, or replaces its older one.
 const PUT: &str = "INSERT INTO file (name, text) VALUES (?1, ?2) \
                    ON CONFLICT (name) DO UPDATE SET text = excluded.text";
 
-/// Removes the files of a folder: `0` is the character behind `/`.
+/// Removes the files in a folder: `0` is the character after `/`.
 const REMOVE: &str = "DELETE FROM file WHERE name >= ?1 || '/' AND name < ?1 || '0'";
 
-/// Gives a file a text in the place of that one, if it has that one.
+/// Replaces the text of a file, if it has the text that is given as the second parameter.
 const SWAP: &str = "UPDATE file SET text = ?3 WHERE name = ?1 AND text = ?2";
 
 const READ: &str = "SELECT name, text FROM file ORDER BY name";
@@ -25,8 +25,8 @@ const FIND: &str = "SELECT text FROM file WHERE name = ?1";
 
 const CLEAR: &str = "DELETE FROM file";
 
-/// What a write follows: the text that a file must have before it, and the one that it has behind
-/// it.
+/// The condition of a write: a file, the text that it must have before the write, and the text that
+/// it has after it.
 #[derive(Clone, Copy)]
 pub struct Swap<'a> {
     pub name: &'a str,
@@ -39,7 +39,7 @@ struct Database {
     connection: Connection<FileStore<File>>,
 }
 
-// It is written out, so that a crate that drops a journal does not prove again how a connection is
+// It is written out, so that a crate that drops a journal need not prove again how a connection is
 // dropped.
 impl Drop for Database {
     fn drop(self) {
@@ -54,18 +54,18 @@ impl Database {
         Ok(Database { connection })
     }
 
-    /// Runs a text with these parameters, which answers no rows. Returns how many it has changed.
+    /// Runs a statement that returns no rows, and returns how many rows it changed.
     fn run(&mut self, text: &str, values: &[ValueRef<'_>]) -> Result<usize, Error> {
         self.connection.execute(text, values)
     }
 
-    /// Returns the rows that a text with these parameters answers.
+    /// Runs a query, and returns its rows.
     fn rows(&mut self, text: &str, values: &[ValueRef<'_>]) -> Result<Vec<Row>, Error> {
         self.connection.query_all(text, values)
     }
 }
 
-/// A journal, open. One process has it at a time.
+/// An open journal. Only one process can have it open at a time.
 #[derive(Drop)]
 pub struct Journal {
     alloc: Global,
@@ -74,10 +74,10 @@ pub struct Journal {
 }
 
 impl Journal {
-    /// Opens the journal in a file, which is made where there is none.
+    /// Opens the journal in the file at a path, and creates the file if it is missing.
     ///
     /// # Errors
-    /// Why it could not be opened: `DatabaseBusy` where another process has it.
+    /// The error of the database: `DatabaseBusy` if another process has it open.
     pub fn open(rt: &HostRuntime, path: &str) -> Result<Journal, Error> {
         let mut database = Box::new(rt.alloc(), Database::open(rt, path)?)?;
         let _ = database.run(TABLE, &[])?;
@@ -87,23 +87,25 @@ impl Journal {
         })
     }
 
-    /// Makes changes durable, all of them or none, in their order. After an error the journal has
-    /// to be opened anew.
+    /// Makes changes durable, all of them or none, in their order. After an error, open the journal
+    /// anew: it may still have the transaction open.
     ///
     /// # Errors
-    /// Why they could not be made durable.
+    /// The error of the database. The changes may be durable all the same, if the commit failed.
     pub fn write(&mut self, changes: &[Change]) -> Result<(), Error> {
         self.run("BEGIN", &[])?;
         self.make(changes)?;
         self.run("COMMIT", &[])
     }
 
-    /// Makes changes durable as [`write`](Journal::write) does, if a file has the text that it must
-    /// have before them; the file then has the other text, in the same transaction. Returns false,
-    /// and changes nothing, if it doesn't: somebody else has written to the journal since.
+    /// Makes changes durable as [`write`](Journal::write) does, if the file of `swap` has the text
+    /// `before`. The same transaction gives it the text `after`. Returns false, and changes
+    /// nothing, if it has another text or is missing: then somebody else has written to the
+    /// journal.
     ///
     /// # Errors
-    /// Why they could not be made durable. They may be so all the same, as the file then tells.
+    /// The error of the database. The changes may be durable all the same: then the file of `swap`
+    /// has the text `after`.
     pub fn write_after(&mut self, swap: Swap<'_>, changes: &[Change]) -> Result<bool, Error> {
         self.run("BEGIN", &[])?;
         if !self.swap(swap)? {
@@ -118,7 +120,7 @@ impl Journal {
     /// Returns the text of a file, if the journal has one.
     ///
     /// # Errors
-    /// Why it could not be read.
+    /// The error of the database.
     pub fn find(&mut self, name: &str) -> Result<Option<Vec<u8>>, Error> {
         match self.database.rows(FIND, params![name])?.first() {
             Some(row) => Ok(Some(row.get(0)?)),
@@ -126,10 +128,10 @@ impl Journal {
         }
     }
 
-    /// Returns all files, by their names.
+    /// Returns all files, in the order of their names.
     ///
     /// # Errors
-    /// Why they could not be read.
+    /// The error of the database.
     pub fn files(&mut self) -> Result<Vec<FileText>, Error> {
         let mut files = Vec::new(self.alloc);
         for row in self.database.rows(READ, &[])?.iter() {
@@ -138,10 +140,10 @@ impl Journal {
         Ok(files)
     }
 
-    /// Removes all files, and has that written through.
+    /// Removes all files durably.
     ///
     /// # Errors
-    /// Why they could not be removed.
+    /// The error of the database.
     pub fn clear(&mut self) -> Result<(), Error> {
         self.run(CLEAR, &[])
     }
@@ -157,13 +159,13 @@ impl Journal {
         Ok(())
     }
 
-    /// Gives a file another text, and returns whether it had the one before it.
+    /// Gives a file the text `after`, and returns whether it had the text `before`.
     fn swap(&mut self, swap: Swap<'_>) -> Result<bool, Error> {
         let values = params![swap.name, swap.before, swap.after];
         Ok(self.database.run(SWAP, values)? == 1)
     }
 
-    /// Runs a text with these parameters, which answers no rows.
+    /// Runs a statement that returns no rows.
     fn run(&mut self, text: &str, values: &[ValueRef<'_>]) -> Result<(), Error> {
         let _ = self.database.run(text, values)?;
         Ok(())

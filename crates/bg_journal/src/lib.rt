@@ -1,5 +1,5 @@
 //! A journal of files, in a SQLite database: the newest texts of files whose own bytes may not be
-//! durable yet. Many files are made durable by one sync of the database.
+//! durable yet. One sync of the database makes many files durable.
 //!
 //! ```
 //! let mut journal = Journal::open(&rt, "journal.db")?;

@@ -13,25 +13,26 @@ use http::header::{
 use http_server::Response;
 use std::alloc::AllocError;
 
-/// What a page may load, and who may show it in a frame: what this server has alone, and nobody.
+/// The policy of a page: it may load only what this server has, and nobody may show it in a frame.
 const OWN_ALONE: &str =
     "default-src 'none'; script-src 'self'; style-src 'self'; connect-src 'self'; img-src 'self' data:; base-uri 'none'; form-action 'self'; frame-ancestors 'none'";
 
-/// The same, where any site may show it in a frame.
+/// The same, except that any site may show the page in a frame, and that it can send no form.
 const IN_FRAMES: &str =
     "default-src 'none'; script-src 'self'; style-src 'self'; connect-src 'self'; img-src 'self' data:; base-uri 'none'; form-action 'none'; frame-ancestors *";
 
-/// What a picture may load: nothing but its own style.
+/// The policy of a picture: it may load nothing and use only its own style, and nobody may show it
+/// in a frame.
 const PICTURE: &str = "default-src 'none'; style-src 'unsafe-inline'; frame-ancestors 'none'";
 
-/// What a text is.
+/// The kind of a text that answers a request.
 #[derive(Clone, Copy, Debug, PartialEq, Eq)]
 pub enum Kind {
     Json,
     Plain,
-    /// SVG.
+    /// An SVG file.
     Picture,
-    /// Files, as `tar` reads them.
+    /// A `tar` archive.
     Archive,
 }
 
@@ -50,7 +51,7 @@ impl Kind {
 /// Adds the headers that each answer has.
 ///
 /// # Errors
-/// AllocError where there is no memory for them, as of all functions here.
+/// `AllocError` if memory runs out, as in all functions here.
 pub fn add_common(response: &mut Response) -> Result<(), AllocError> {
     response.add_header(X_CONTENT_TYPE_OPTIONS, HeaderValue::from_static("nosniff"))?;
     response.add_header(REFERRER_POLICY, HeaderValue::from_static("no-referrer"))?;
@@ -102,7 +103,7 @@ pub fn answer_line(response: &mut Response, line: &'static str) -> Result<(), Al
     answer_fixed(response, Kind::Plain.media_type(), line)
 }
 
-/// Answers with a status, and a line that says why.
+/// Answers with a status, and a line of plain text that says why.
 pub fn refuse(
     response: &mut Response,
     status: StatusCode,
@@ -114,7 +115,7 @@ pub fn refuse(
     answer_line(response, why)
 }
 
-/// Answers with a text that nobody is to keep, as it changes.
+/// Answers with a text that changes, so that no cache may keep it.
 pub fn answer_text(response: &mut Response, kind: Kind, text: Vec<u8>) -> Result<(), AllocError> {
     if kind == Kind::Picture {
         response.add_header(CONTENT_SECURITY_POLICY, HeaderValue::from_static(PICTURE))?;
@@ -127,7 +128,7 @@ pub fn answer_text(response: &mut Response, kind: Kind, text: Vec<u8>) -> Result
     }
 }
 
-/// Answers with a text that is always the same.
+/// Answers with a text that is the same in every answer.
 fn answer_fixed(
     response: &mut Response,
     media_type: HeaderValue,
@@ -139,7 +140,7 @@ fn answer_fixed(
     response.body.push(Bytes::from_static(text.as_bytes()))
 }
 
-/// Adds the headers of a text that is the same until another version of the program runs.
+/// Adds the headers of a text that stays the same until another version of the program runs.
 fn describe(response: &mut Response, media_type: HeaderValue) -> Result<(), AllocError>
     ensures { OnOk result (response.new.status ≡ response.old.status) }
 {

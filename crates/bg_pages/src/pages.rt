@@ -1,18 +1,18 @@
-//! The pages: the same for all matches, as what differs comes by the socket.
+//! The pages. They are the same for all matches, since what differs comes over the socket.
 
 /// A page.
 #[derive(Clone, Copy, Debug, PartialEq, Eq)]
 pub enum Page {
-    /// That of all matches.
+    /// The page of all matches, where new ones are made too.
     Home,
-    /// That of a match, for those who watch and for players.
+    /// The page of a match, for watchers and for players.
     Match,
-    /// The same, for a frame in a page of another site.
+    /// The same page, for a frame in a page of another site.
     Embedded,
 }
 
 impl Page {
-    /// Returns its text.
+    /// Returns the page as HTML.
     pub(crate) fn text(self) -> &'static str {
         match self {
             Page::Home => HOME_PAGE,
@@ -65,7 +65,7 @@ const HOME_PAGE: &str = r#"<!DOCTYPE html>
 </html>
 "#;
 
-/// The page of a match, for those who watch and for players.
+/// The page of a match, as HTML.
 const MATCH_PAGE: &str = r#"<!DOCTYPE html>
 <html lang="en">
 <head>

@@ -1,22 +1,23 @@
-//! What a peer says by his socket, or by a request.
+//! What a peer says over its socket, or by a request (docs/SERVING.md, "Sockets" and "Scripts").
 ghost use Rattle.std.specs.Prelude.{IfSome};
 ghost use Rattle.bg_requests.specs.Messages.{IsActOf, Says};
 
-/// The most bytes of a message that is read.
+/// Number of bytes of a message, at most. A longer one is `Unknown`.
 pub const MOST_MESSAGE: usize = 512;
 
 /// What a peer says.
 #[derive(Clone, Copy, Debug, PartialEq, Eq)]
 pub enum Message<'a> {
-    /// He has the seat of this secret.
+    /// It has the seat of this secret.
     Hello(&'a str),
-    /// He acts: the action in these words is to become the entry of this number.
+    /// It acts: the action in these words is to become the entry of this number.
     Act(u32, &'a str),
-    /// He says nothing that is known.
+    /// It says nothing that the server knows.
     Unknown,
 }
 
-/// Returns what a message says: `hello SECRET` or `act NUMBER WORDS`.
+/// Returns what a message says: `hello SECRET` or `act NUMBER WORDS`. Any other text, and one of
+/// more than 512 bytes, is `Unknown`.
 pub fn parse_message(text: &str) -> Message<'_>
     ensures { Says text.now result }
 {
@@ -35,7 +36,7 @@ pub fn parse_message(text: &str) -> Message<'_>
     }
 }
 
-/// Returns what `NUMBER WORDS` say.
+/// Returns the number and the words of `NUMBER WORDS`, and `None` if the text has another form.
 pub fn parse_act(text: &str) -> Option<(u32, &str)>
     ensures { IfSome result (λ act. IsActOf text.now act.1.now) }
 {

@@ -1,5 +1,4 @@
-//! Who may play a match: whoever knows the secret of a seat, of which the server keeps the SHA-256
-//! alone.
+//! Who may play a match: whoever knows the secret of a seat. The server keeps only its SHA-256.
 ghost use Rattle.std.specs.Prelude.{◌≡◌};
 ghost use Rattle.bg_requests.specs.Seats.{same_bytes};
 ghost use Rattle.sha2.specs.Sha256.{sha256};
@@ -7,7 +6,7 @@ ghost use Rattle.sha2.specs.Sha256.{sha256};
 use bg_board::Player;
 use sha2::{Digest as Hasher, Sha256};
 
-/// The SHA-256 of a secret, as it is written.
+/// The SHA-256 of the text of a secret.
 pub type Digest = [u8; 32];
 
 /// The digests of the secrets of both seats.
@@ -29,8 +28,9 @@ pub fn digest_of(secret: &str) -> Digest
 impl Seats {
     ghost use Rattle.bg_requests.specs.Seats.{player_with};
 
-    /// Returns the player whose seat has a secret of this digest: X, where both have. It compares
-    /// the same bytes whatever the digest is, so that the time tells nothing of the secrets.
+    /// Returns the player whose seat has this digest: X if both have, and `None` if neither has. It
+    /// compares all bytes whatever they are, so that the time it takes reveals nothing about the
+    /// secrets.
     pub fn player_of(&self, digest: &Digest) -> Option<Player>
         ensures { result ≡ player_with self.now digest.now }
     {

@@ -7,26 +7,26 @@ ghost use Rattle.bg_requests.specs.Targets.{NamesSome, NamesSomeBehind, may_be_i
 
 use itoa::Buffer;
 
-/// What there is of a match.
+/// A part of a match, as the end of a path names it.
 #[derive(Clone, Copy, Debug, PartialEq, Eq)]
 pub enum Part {
-    /// The page of those who watch.
+    /// The page for watchers.
     Page,
     /// The same page, for a frame in a page of another site.
     Embed,
-    /// The state.
+    /// The current state.
     State,
-    /// The state after so many entries.
+    /// The state after this number of entries.
     StateAfter(u32),
     Transcript,
-    /// The match file of other programs.
+    /// A match file for other programs.
     Mat,
     Picture,
-    /// What is told of the secret that its dice are made of.
+    /// The SHA-256 of the secret of the dice, and the secret itself once the match is over.
     Dice,
     /// Where players' programs send actions.
     Actions,
-    /// The socket of those who watch.
+    /// The WebSocket for watchers.
     Live,
 }
 
@@ -36,21 +36,21 @@ pub enum Target<'a> {
     Home,
     Script,
     Style,
-    /// All matches: they are listed, and new ones are made.
+    /// The list of matches, where new ones are made too.
     Matches,
-    /// The page of players.
+    /// The page for players.
     Play,
-    /// The socket of players.
+    /// The WebSocket for players.
     PlayLive,
     Health,
-    /// What is counted of the server.
+    /// The counters of the server, for Prometheus.
     Metrics,
     /// A part of the match of this name.
     Of(&'a str, Part),
     Nothing,
 }
 
-/// Returns what a path names (docs/SERVING.md, "Paths").
+/// Returns what a path names (docs/SERVING.md, "Paths"): `Nothing` if no such path exists.
 pub fn target_of(path: &str) -> Target<'_>
     ensures named { IsNamedBy path.now result }
     ensures total { NamesSome path.now → IsFound result }
@@ -71,7 +71,8 @@ pub fn target_of(path: &str) -> Target<'_>
     }
 }
 
-/// Returns what the name of a match, and what stands behind it, name.
+/// Returns what a path names, by its rest after `/matches/`: the name of a match, and perhaps a
+/// part.
 fn part_of(rest: &str) -> Target<'_>
     ensures named { IsNamedBehind rest.now result }
     ensures total { NamesSomeBehind rest.now → IsFound result }
@@ -82,7 +83,8 @@ fn part_of(rest: &str) -> Target<'_>
     }
 }
 
-/// Returns the part of a match; nothing where it has no such part, or no match may have the name.
+/// Returns the target of a part of a match: `Nothing` if there is no part, or no match may have the
+/// name.
 fn of_match(name: &str, part: Option<Part>) -> Target<'_>
     ensures named { IsOfMatch name.entry part result }
     ensures total { IsSome part → IsTrue (may_name name.now) → IsFound result }
@@ -93,7 +95,7 @@ fn of_match(name: &str, part: Option<Part>) -> Target<'_>
     }
 }
 
-/// Returns the part that a word names, but for the page, which has none.
+/// Returns the part that a word names. The page of a match has no word.
 fn part_named(word: &str) -> Option<Part>
     ensures named { IfSome result (IsWordOf word.now) }
     ensures total { IsWord word.now → IsSome result }
@@ -122,8 +124,8 @@ fn plain_part(word: &str) -> Option<Part>
     }
 }
 
-/// Returns the number that digits say, as it is written: without a sign, and with no zero before
-/// other digits.
+/// Returns the number that these digits are, from 0 to 4294967295. Returns `None` if there is a
+/// sign, or a zero before other digits.
 fn count_of(digits: &str) -> Option<u32>
     ensures said { IfSome result (λ count. digits.now ≡ decimal count) }
     ensures total { (count : ℕ) → count < 2 ^ 32 → digits.now ≡ decimal count → IsSome result }

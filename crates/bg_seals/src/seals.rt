@@ -31,8 +31,8 @@ impl Key {
         Tag::truncated(&hasher.finalize())
     }
 
-    /// Returns the datagram of a packet of at most 128 bytes. It is sealed under this key, for a
-    /// direction between the referee and this party.
+    /// Seals a packet of at most 128 bytes under this key, for a direction between the referee and
+    /// this party, and returns the datagram.
     pub fn seal(&self, direction: Direction, party: u8, packet: &[u8]) -> SealedDatagram
         requires { length packet.now ≤ most_packet_bytes }
         ensures { IsSealed self.now direction party packet.now result.items }
@@ -45,7 +45,7 @@ impl Key {
     }
 
     /// Returns the packet that was sealed under this key, for this direction and this party.
-    /// Returns `None` where the datagram is no packet that was sealed so.
+    /// Returns `None` if the datagram is no packet that was sealed so.
     pub fn open<'a>(&self, direction: Direction, party: u8, datagram: &'a [u8]) -> Option<&'a [u8]>
         ensures { MatchOption result (IsNotSealed self.now direction party datagram.now)
             (λ packet. IsSealed self.now direction party packet.now datagram.now) }

@@ -23,8 +23,8 @@ impl Tag {
         Tag { bytes }
     }
 
-    /// Returns whether the tag has these bytes. All 16 bytes are compared, whichever of them
-    /// differ. No clause can say how long that takes.
+    /// Returns whether the tag has these bytes. It compares all 16, whichever of them differ. No
+    /// clause can say how long that takes.
     pub(crate) fn is(&self, bytes: &[u8; TAG_BYTES]) -> bool
         ensures { IsTrue result ↔ (self.now.bytes ≡ bytes.now) }
     {

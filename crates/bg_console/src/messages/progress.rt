@@ -14,8 +14,8 @@ pub struct Progress {
 }
 
 impl Progress {
-    /// Creates the state without a report so far. Unless `is_watched` is set, nothing is ever
-    /// reported.
+    /// Creates the state in which nothing was reported yet. Unless `is_watched` is set, nothing
+    /// ever is.
     pub fn start(rt: &impl Clock, is_watched: bool) -> Progress {
         let told = if is_watched {
             Instant::now(rt).ok()
@@ -25,13 +25,13 @@ impl Progress {
         Progress { told }
     }
 
-    /// Reports on the standard error how much of the work is done, and what it consists of, at most
+    /// Reports on standard error how much of the work is done, and what it consists of, at most
     /// once a second.
     pub fn tell(&mut self, rt: &(impl Clock + Eprint), what: &str, done: u32, all: u32) {
         self.tell_of(rt, format_args!("{done} of {all} {what} are done"));
     }
 
-    /// Reports this on the standard error, at most once a second, and only where somebody watches.
+    /// Reports this on standard error, at most once a second, and only if somebody watches.
     pub fn tell_of<D: Display + Drop>(&mut self, rt: &(impl Clock + Eprint), what: D) {
         let (Some(told), Ok(now)) = (self.told, Instant::now(rt)) else {
             return;

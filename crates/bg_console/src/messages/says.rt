@@ -1,31 +1,31 @@
-//! Messages on the standard error.
+//! Messages on standard error.
 
 use bg_system::{DeviceFailure, FailedCall, Failures, Printable};
 use std::fmt::Display;
 use std::io;
 use std::io::ErrorKind;
 
-/// Prints a message to the standard error, after the program's name (docs/OPERATING.md,
-/// "Messages"). Where that can't be written, there is nobody to tell.
+/// Prints a message to standard error, after the program's name (docs/OPERATING.md, "Messages"). If
+/// it can't be written, there is nobody to tell.
 pub fn say<D: Display + Drop>(rt: &impl Eprint, message: D) {
     let _ = eprintln!(rt; "bg_relay: {message}");
 }
 
-/// Prints the name of a file or a folder, and these words behind it.
+/// Prints the name of a file or a folder, and these words after it.
 pub fn say_of(rt: &impl Eprint, path: &str, words: &str) {
     let shown = Printable(path);
     say(rt, format_args!("{shown}{words}"));
 }
 
-/// Prints the name of a file or a folder, and these words and a reason behind it. Then what to do,
-/// where a right or room is missing.
+/// Prints the name of a file or a folder, these words and a reason. Then it says what to do, if a
+/// right or room is missing.
 pub fn say_why(rt: &impl Eprint, path: &str, words: &str, reason: &io::Error) {
     let (shown, remedy) = (Printable(path), remedy_of(reason));
     say(rt, format_args!("{shown}{words}: {reason}{remedy}"));
 }
 
-/// Returns what to do where a file can't be used for this reason. Returns an empty text where that
-/// depends on the file.
+/// Returns what to do if a file can't be used for this reason, or an empty text if that depends on
+/// the file.
 pub(crate) fn remedy_of(reason: &io::Error) -> &'static str {
     match reason.kind() {
         ErrorKind::PermissionDenied =>
@@ -51,7 +51,8 @@ pub fn say_failures(rt: &impl Eprint, failures: &Failures, folder: &str) {
     }
 }
 
-/// Returns what to do where the file of a slot can't be used, as a right or room is missing.
+/// Returns what to do if the file of a slot can't be used because a right or room is missing, or an
+/// empty text.
 fn remedy_of_failure(failure: &DeviceFailure) -> &'static str {
     match (failure.call, failure.error.kind()) {
         (
