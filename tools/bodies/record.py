@@ -13,18 +13,20 @@ KINDS = (REFUSED, NOT_JUDGED, ACCEPTED, BROKEN)
 PAGE = "docs/WRONG_BODIES.md"
 HEAD = """# Wrong bodies
 
-A wrong body is a change of the code that the check must refuse: else a contract lets it through. The gate itself tries
-few (`crates/NAME/must-fail`), and holds these, which stand in `crates/NAME/wrong_bodies`, to their form. This page has
-what each came to when it was last tried, and `tools/each_wrong_body --write` writes it.
+A wrong body is a mutation of the code that the check must refuse: otherwise a contract lets it through. The gate tries
+those of `crates/NAME/must-fail` each time. Those on this page are in `crates/NAME/wrong_bodies`. Of these the gate
+checks that each can be applied, and tries those of crates that have changed, as far as its time goes. This page says
+what each came to when it was last tried; `tools/each_wrong_body --write` writes it.
 
-A section's sum is taken over all that its verdicts rest on. That is the crate's files below src, specs, proofs and
-wrong_bodies, and its line of crates.txt. Of each crate below it, it is the specs, and the sources without the bodies of
-functions. Comments and imports in sources are left out: other names would show in other lines too. Where the sum
-differs from that of the files, the crate is to be tried again: `tools/each_wrong_body --changed` tells and does so.
+The sum of a section is taken over everything that its verdicts depend on. Of the crate itself, that is the files below
+src, specs, proofs and wrong_bodies, and its line of crates.txt. Of each crate below it, it is the specs, and the
+sources without the bodies of functions. Imports are left out, and so are comments in sources: a change of an import
+shows in other lines too. If the sum differs from that of the files, the crate has to be tried again, which
+`tools/each_wrong_body --changed` does.
 
-A row names the function whose proof fails and the goals that are open there, or the handwritten answer that fits no
-longer. "Not judged" is a wrong body that fails the check for another reason, as where only a proof misses a name. So it
-says little of a contract.
+A row names the function whose proof fails, and the goals that are open there or the handwritten answer that no longer
+fits. "Not judged" is a wrong body that fails the check for another reason, for instance because a proof misses a name.
+So it says little about a contract.
 """
 # A `use` of sources, and of definitions and proofs; one under `pub` is seen by callers.
 IMPORTS = {
