@@ -65,6 +65,10 @@ pub struct MailLink {
 }
 
 impl MailLink {
+    /// Returns a link for the parties from 0 to `parties - 1`, over which nothing was sent.
+    ///
+    /// # Errors
+    /// `AllocError` where memory runs out.
     pub fn new(alloc: Global, parties: usize) -> Result<MailLink, AllocError> {
         Ok(MailLink {
             mail: Mail::new(alloc, parties)?,
@@ -118,6 +122,10 @@ pub struct FileKeeper<'a, R> {
 }
 
 impl<'a, R: Files<File = File> + AllocGlobal> FileKeeper<'a, R> {
+    /// Returns a keeper over the files of a party in a folder.
+    ///
+    /// # Errors
+    /// Those of [`SlotFiles::open`].
     pub fn new(rt: &'a R, folder: &str, party: u8) -> io::Result<FileKeeper<'a, R>> {
         Ok(FileKeeper {
             files: SlotFiles::open(rt, folder, party)?,

@@ -24,6 +24,7 @@ pub struct PostLink {
 }
 
 impl PostLink {
+    /// Returns a link whose inbox and outbox are empty.
     pub fn new(alloc: Global) -> PostLink {
         PostLink {
             alloc,

@@ -59,6 +59,10 @@ fn restored<R: Files<File = File> + AllocGlobal>(
 impl<'a, R: Net + Files<File = File> + RandomSource + AllocGlobal> RefereeHost<'a, R> {
     /// Continues the match that the folder has, or begins it, at a port of 127.0.0.1 (0: one that
     /// is free).
+    ///
+    /// # Errors
+    /// `Restore` where the files don't restore a referee of this match. `Length` where the length
+    /// is not from 1 to 99. `System` where the files or the socket can't be used.
     pub fn open(
         rt: &'a R,
         folder: &str,
@@ -82,11 +86,17 @@ impl<'a, R: Net + Files<File = File> + RandomSource + AllocGlobal> RefereeHost<'
     }
 
     /// Returns the address at which the parties reach it.
+    ///
+    /// # Errors
+    /// The system's error.
     pub fn address(&self) -> io::Result<SocketAddr> {
         self.socket.local_addr()
     }
 
     /// Serves the match for `turns` turns, or until something fails.
+    ///
+    /// # Errors
+    /// Those of [`turn`](RefereeHost::turn).
     pub fn serve(mut self, turns: u64) -> Result<(), HostFault> {
         for _ in 0..turns {
             self.turn()?;

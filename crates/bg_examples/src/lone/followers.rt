@@ -25,6 +25,10 @@ pub struct LoneSeat<'a, R> {
 
 impl<'a, R: Files<File = File> + AllocGlobal> LoneSeat<'a, R> {
     /// Continues the match that the folder has, or begins it.
+    ///
+    /// # Errors
+    /// `Stopped` where the seat can't restart from the files. `Length` where the length is not from
+    /// 1 to 99. `System` where the files can't be used.
     pub fn begin(
         rt: &'a R,
         folder: &str,
@@ -93,7 +97,10 @@ pub struct LoneWatcher {
 }
 
 impl LoneWatcher {
-    /// Returns a watcher that holds no entry. `party` is its number, from 3.
+    /// Returns a watcher that holds no entry. `party` is its number, from 3 to 255.
+    ///
+    /// # Errors
+    /// `Length` where the length is not from 1 to 99.
     pub fn begin(
         alloc: Global,
         party: u8,

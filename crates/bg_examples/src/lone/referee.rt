@@ -27,6 +27,9 @@ pub enum ProcessFault {
 }
 
 /// Checks that a party goes on after its restart had this outcome.
+///
+/// # Errors
+/// `Stopped` with any outcome but `Restarted`.
 pub fn check_restart(outcome: Outcome) -> Result<(), ProcessFault> {
     match outcome {
         Outcome::Restarted => Ok(()),
@@ -48,6 +51,10 @@ pub struct LoneReferee<'a, R> {
 impl<'a, R: Files<File = File> + AllocGlobal> LoneReferee<'a, R> {
     /// Continues the match that the folder has, or begins it. The dice come from these random
     /// words: each process needs others, as no word may be handed in twice.
+    ///
+    /// # Errors
+    /// `Stopped` where the referee can't restart from the files. `Length` where the length is not
+    /// from 1 to 99. `System` where the files can't be used.
     pub fn begin(
         rt: &'a R,
         folder: &str,
