@@ -10,13 +10,25 @@ use bg_world::{DeviceFault, Keeper, count_failed};
 /// The keeper of a party of a served match, over the party's files in the folder of the match. If
 /// there is a database, a save counts once the turn is committed there, and the file is written
 /// later. Nothing is claimed about the keeper's honesty, because others may write to these files.
-#[derive(Drop)]
 pub struct ServedKeeper<'a> {
     files: ServedFiles<'a>,
     writes: History,
     reads: History,
     faults: History,
     written: Result<(), DeviceFault>,
+}
+
+// Written out, so that an owner proves one call, and not the drop of each field.
+impl<'a> Drop for ServedKeeper<'a> {
+    fn drop(self) {
+        let ServedKeeper {
+            files: _,
+            writes: _,
+            reads: _,
+            faults: _,
+            written: _,
+        } = self;
+    }
 }
 
 impl<'a> ServedKeeper<'a> {

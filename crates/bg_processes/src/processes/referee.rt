@@ -39,13 +39,25 @@ const QUIET_TICKS: u32 = 50;
 /// The referee of a match as a process runs it, over its own link and keeper (docs/PROTOCOL.md,
 /// "Parties in processes of their own"). Its dice are derived from a key. A round takes what has
 /// come, adds what is due, saves, and sends. Between two rounds the process waits.
-#[derive(Drop)]
 pub struct RefereeProcess<L, K> {
     node: RefereeNode,
     link: L,
     keeper: K,
     key: [u8; 32],
     notes: RefereeNotes,
+}
+
+// Written out, so that an owner proves one call, and not the drop of each field.
+impl<L: Drop, K: Drop> Drop for RefereeProcess<L, K> {
+    fn drop(self) {
+        let RefereeProcess {
+            node: _,
+            link: _,
+            keeper: _,
+            key: _,
+            notes: _,
+        } = self;
+    }
 }
 
 impl<L: Link + Drop, K: Keeper + Drop> RefereeProcess<L, K> {

@@ -31,13 +31,25 @@ use std::alloc::Global;
 /// It saves each claim before it sends it. It saves the answer too, so that the next process doesn't
 /// ask for it again: with the player's next claim, or else in the first round in which a tick is due.
 /// It saves also when the match is over, so that its files have the whole match.
-#[derive(Drop)]
 pub struct SeatProcess<L, K> {
     player: Player,
     node: SeatNode,
     link: L,
     keeper: K,
     notes: SeatNotes,
+}
+
+// Written out, so that an owner proves one call, and not the drop of each field.
+impl<L: Drop, K: Drop> Drop for SeatProcess<L, K> {
+    fn drop(self) {
+        let SeatProcess {
+            player: _,
+            node: _,
+            link: _,
+            keeper: _,
+            notes: _,
+        } = self;
+    }
 }
 
 impl<L: Link + Drop, K: Keeper + Drop> SeatProcess<L, K> {

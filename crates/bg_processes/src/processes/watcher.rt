@@ -18,11 +18,21 @@ use std::alloc::Global;
 /// A watcher of a match as a process runs it, over its own link (docs/PROTOCOL.md,
 /// "Parties in processes of their own"). A round takes what has come, and sends. Between two rounds
 /// the process waits.
-#[derive(Drop)]
 pub struct WatcherProcess<L> {
     party: u8,
     node: WatcherNode,
     link: L,
+}
+
+// Written out, so that an owner proves one call, and not the drop of each field.
+impl<L: Drop> Drop for WatcherProcess<L> {
+    fn drop(self) {
+        let WatcherProcess {
+            party: _,
+            node: _,
+            link: _,
+        } = self;
+    }
 }
 
 impl<L: Link + Drop> WatcherProcess<L> {
