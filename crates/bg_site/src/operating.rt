@@ -66,7 +66,8 @@ impl<K: Keeper + Drop, S: Store<K> + Drop> Site<K, S> {
 
     /// Adds a match that another server has made, or updates one in which another server has acted.
     /// The match continues from what its keepers have now, and its peers are sent its state again.
-    /// Returns false if there is no room or no memory for it; then nothing changes.
+    /// If it has no other number of entries now, nobody has acted: it stays idle, and keeps its
+    /// place in lists. Returns false if there is no room or no memory for it; then nothing changes.
     pub fn replace(&mut self, found: Found<K>) -> bool {
         let Some(index) = self.by_name(found.name.as_str()) else {
             return self.open(found);
@@ -75,12 +76,14 @@ impl<K: Keeper + Drop, S: Store<K> + Drop> Site<K, S> {
         let Some(place) = self.places.get_mut(index) else {
             return false;
         };
-        let was_live = place.is_live();
+        let (was_live, entries) = (place.is_live(), place.summary.entries);
         if !place.replace(self.alloc, found) {
             return false;
         }
-        place.news = news;
-        place.quiet = Quiet::broken(minute);
+        if place.summary.entries != entries {
+            place.news = news;
+            place.quiet = Quiet::broken(minute);
+        }
         if was_live && !place.is_live() {
             self.counts.note_end();
         }

@@ -180,6 +180,27 @@ fn a_match_goes_on_from_what_another_site_has_saved(rt: HostRuntime) {
     check_play(&rt, &rt, RENEWED);
 }
 
+/// Another server has changed the match without an action, and then by one.
+const IDLE_ELSEWHERE: &str = r#"order
+other renew
+other idle 10
+other minute 10
+other get /matches?list=idle > "count":1
+other renew
+other get /matches?list=idle > "count":1
+players 2 resign normal
+other renew
+other get /matches?list=idle > "count":0
+other minute 19
+other get /matches > "count":1
+other minute 20
+other get /matches > "count":0"#;
+
+#[test]
+fn a_match_stays_idle_until_somebody_acts_at_another_site(rt: HostRuntime) {
+    check_play(&rt, &rt, IDLE_ELSEWHERE);
+}
+
 /// A save that has failed is tried again; a match that is full is left alone.
 const TOO_LONG: &str = r#"order
 fail
