@@ -72,7 +72,7 @@ impl<K: Keeper + Drop, S: Store<K> + Drop> Site<K, S> {
     }
 
     /// Returns the next frame that a peer lacks, and notes that the peer has it. Returns `None` if
-    /// it lacks none.
+    /// it lacks none. A state that can't be read now is tried again by the next call.
     ///
     /// # Errors
     /// `AllocError` if memory runs out.
@@ -97,8 +97,10 @@ impl<K: Keeper + Drop, S: Store<K> + Drop> Site<K, S> {
             return Ok(Some(frame_of(self.alloc, &text)?));
         }
         if peer.version != version {
-            peer.version = version;
-            return self.state_frame(index, peer.seat);
+            if let Some(frame) = self.state_frame(index, peer.seat)? {
+                peer.version = version;
+                return Ok(Some(frame));
+            }
         }
         if peer.comings != comings {
             peer.comings = comings;

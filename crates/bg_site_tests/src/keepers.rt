@@ -3,8 +3,9 @@ ghost use Rattle.std.specs.Prelude.{None, length};
 ghost use Rattle.bg_protocol.specs.Protocol.Slots.{empty_slots};
 
 use crate::lasting::lasting;
+use bg_match::{Record, Rules};
 use bg_streams::History;
-use bg_wire::Slot;
+use bg_wire::{REFEREE, Slot, restore};
 use bg_world::{DeviceFault, Keeper, Keepers, count_failed};
 use std::alloc::Global;
 use std::cell::{Cell, RefCell};
@@ -62,6 +63,8 @@ pub(crate) struct Shelf {
     good: RefCell<u32>,
     /// Whether it takes nothing more.
     is_full: Cell<bool>,
+    /// Whether the record of a match that has ended can't be read.
+    is_unread: Cell<bool>,
 }
 
 /// A shelf that has nothing yet. It lasts as long as the process.
@@ -77,6 +80,7 @@ impl Shelf {
             o: Slots::new(alloc),
             good: RefCell::new(u32::MAX),
             is_full: Cell::new(false),
+            is_unread: Cell::new(false),
         }
     }
 
@@ -88,6 +92,27 @@ impl Shelf {
     /// Whether it takes nothing more.
     pub(crate) fn is_full(&self) -> bool {
         self.is_full.get()
+    }
+
+    /// From now on the record of a match that has ended can't be read, or can be read again.
+    pub(crate) fn set_unread(&self, is_unread: bool) {
+        self.is_unread.set(is_unread);
+    }
+
+    /// The record that the referee of match 7 to one point has saved, unless it can't be read.
+    pub(crate) fn record(&self) -> Option<Record> {
+        if self.is_unread.get() {
+            return None;
+        }
+        let alloc = self.referee.alloc;
+        let (zero, one) = (
+            self.referee.get(Slot::Zero).ok()?,
+            self.referee.get(Slot::One).ok()?,
+        );
+        match restore(alloc, &zero, &one, REFEREE, 7, 1, Rules::One) {
+            Ok(Some(saved)) => Some(saved.log),
+            _ => None,
+        }
     }
 
     /// After so many writes that succeed, one fails.

@@ -52,7 +52,7 @@ impl<'a> Store<ShelfKeeper<'a>> for OneShelf<'a> {
     }
 
     fn load(&self, _name: &str) -> Option<Record> {
-        None
+        self.shelf.record()
     }
 
     fn is_full(&self, _name: &str) -> bool {
