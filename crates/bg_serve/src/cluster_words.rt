@@ -33,6 +33,15 @@ pub(crate) fn not_joined(rt: &HostRuntime, folder: &str, words: &str, why: &Unjo
             rt,
             format_args!("{folder} is a copy of another store than {words}: name an empty folder"),
         ),
+        Unjoined::TooLong(name) => {
+            let name = Printable(name.as_str());
+            wrong(
+                rt,
+                format_args!(
+                    "the match {name} in {folder} has more than the 450000 bytes that {words} takes: move its folder out of there, and serve it without a cluster"
+                ),
+            )
+        }
         Unjoined::Emptied => failed(
             rt,
             format_args!(

@@ -1,12 +1,13 @@
 //! How a server joins the servers that share the matches of a store. The mark in its folder has the
 //! same digits as the store of which the folder is a copy.
 
+use crate::cluster_words::tell_long;
 use crate::clusters::Cluster;
 use crate::folders::FolderStore;
 use crate::seat_files::random_digits;
 use crate::settling::{CLUSTER, read_mark, write_mark};
-use bg_etcd::{Changes, File, taken_in, transaction_text};
-use bg_stores::{BESIDE_SLOTS, Copies, Members, SLOTS, Trouble, TurnSaves, hosts_in};
+use bg_etcd::{Changes, File, MOST_TEXT, taken_in, transaction_text};
+use bg_stores::{Copies, Members, Trouble, TurnSaves, hosts_in};
 use std::alloc::AllocError;
 use std::io;
 
@@ -30,6 +31,8 @@ pub(crate) enum Unjoined {
     OtherStore,
     /// The folder is a copy of a store that has been emptied since.
     Emptied,
+    /// The match of this name in the folder has more bytes than the store takes.
+    TooLong(String),
 }
 
 impl From<Trouble> for Unjoined {
@@ -101,24 +104,29 @@ impl<'a> Cluster<'a> {
     /// is lost: the next start fills the store again.
     fn fill(&mut self, words: &str) -> Result<(), Unjoined> {
         let Copies { rt, folder } = self.copies;
-        write_mark(rt, folder, words, FILLING)?;
         for name in self.copies.names()? {
-            self.add_all(name.as_str())?;
+            if !self.add_all(name.as_str())? {
+                return Err(Unjoined::TooLong(name));
+            }
         }
+        write_mark(rt, folder, words, FILLING)?;
         let _ = self.commit_whole()?;
         let owner = self.put_owner(random_digits(rt, 16)?)?;
         Ok(write_mark(rt, folder, words, owner.as_str())?)
     }
 
-    /// Adds all files of a match to the pending changes.
-    fn add_all(&mut self, name: &str) -> Result<(), Trouble> {
+    /// Adds all files of a match to the pending changes. Returns false, and adds none, if one of
+    /// them has more bytes than the store takes.
+    fn add_all(&mut self, name: &str) -> Result<bool, Trouble> {
         let mut changes = Changes::new(self.rt.alloc(), name, 0)?;
-        for files in [BESIDE_SLOTS.as_slice(), SLOTS.as_slice()] {
-            for file in self.copies.files(name, files)? {
-                changes.put(file)?;
+        for file in self.copies.all_files(name)? {
+            if file.text.len() > MOST_TEXT {
+                return Ok(false);
             }
+            changes.put(file)?;
         }
-        self.add(changes)
+        self.add(changes)?;
+        Ok(true)
     }
 
     /// Gives the store an ID, unless another server has done so; returns the ID that it has then.
@@ -137,7 +145,7 @@ impl<'a> Cluster<'a> {
     }
 
     /// Removes the matches of the folder that the store doesn't have: they were deleted. A match
-    /// that the operator has restored since is put into the store instead.
+    /// that the operator has restored since is put into the store instead, unless it is too long.
     fn remove_others(&mut self) -> Result<(), Trouble> {
         for name in self.copies.names()? {
             let name = name.as_str();
@@ -145,10 +153,12 @@ impl<'a> Cluster<'a> {
                 continue;
             }
             if self.copies.is_changed(name)? {
-                self.add_all(name)?;
-            } else {
-                self.copies.remove(name)?;
+                if self.add_all(name)? {
+                    continue;
+                }
+                tell_long(self.rt, name, true);
             }
+            self.copies.remove(name)?;
         }
         Ok(())
     }

@@ -1,9 +1,9 @@
 //! Notes for a database or a store about the files of matches, besides the saves of the parties.
 
 use crate::folders::FolderStore;
-use bg_etcd::{File, MOST_BYTES};
+use bg_etcd::File;
 use bg_journal::{Change, FileText};
-use bg_stores::{BESIDE_SLOTS, Copies, SLOTS};
+use bg_stores::{BESIDE_SLOTS, Copies};
 use bg_world::DeviceFault;
 use std::io;
 use std::io::ErrorKind;
@@ -12,8 +12,8 @@ impl<'a> FolderStore<'a> {
     /// Notes that the files of a match are gone.
     ///
     /// # Errors
-    /// `OutOfMemory` if it can't be noted. The other notes also fail with `FileTooLarge` if the
-    /// files don't fit into one transaction, or with the reason why they can't be read.
+    /// `OutOfMemory` if it can't be noted. The other notes also fail if a file has more bytes than
+    /// a store takes, or with the reason why the files can't be read.
     pub(crate) fn note_gone(&self, name: &str) -> io::Result<()> {
         match &self.turn {
             Some(turn) => noted(turn.remove(self.rt.alloc(), name)),
@@ -25,8 +25,7 @@ impl<'a> FolderStore<'a> {
     /// has of them.
     pub(crate) fn note_new(&self, name: &str) -> io::Result<()> {
         if self.is_shared() {
-            self.share(name, &BESIDE_SLOTS)?;
-            return self.share(name, &SLOTS);
+            return self.share(name, self.copies().all_files(name)?);
         }
         self.note_gone(name)
     }
@@ -34,7 +33,7 @@ impl<'a> FolderStore<'a> {
     /// Notes that files of a match other than its slots may have changed. A store gets them.
     pub(crate) fn note_changed(&self, name: &str) -> io::Result<()> {
         if self.is_shared() {
-            return self.share(name, &BESIDE_SLOTS);
+            return self.share(name, self.copies().files(name, &BESIDE_SLOTS)?);
         }
         Ok(())
     }
@@ -44,20 +43,27 @@ impl<'a> FolderStore<'a> {
         self.turn.as_ref().is_some_and(|turn| turn.long.is_some())
     }
 
-    /// Adds files of a match to what the store gets at the end of the turn, if they fit into one
-    /// transaction. A match without seats is not shared, because other processes may play it.
-    fn share(&self, name: &str, files: &[&str]) -> io::Result<()> {
-        let (rt, folder) = (self.rt, self.folder);
+    /// Returns the folder as a copy of a store.
+    fn copies(&self) -> Copies<'a> {
+        Copies {
+            rt: self.rt,
+            folder: self.folder,
+        }
+    }
+
+    /// Adds files of a match to what the store gets at the end of the turn: all of them, or none if
+    /// one is too long. A match without seats is not shared, because other processes may play it.
+    fn share(&self, name: &str, files: Vec<File>) -> io::Result<()> {
         let Some(turn) = &self.turn else {
             return Ok(());
         };
-        let copies = Copies { rt, folder };
-        if !copies.has_seats(name)? {
+        if !self.copies().has_seats(name)? {
             return Ok(());
         }
-        let files = copies.files(name, files)?;
-        if bytes_of(&files) > MOST_BYTES {
-            return Err(io::Error::from(ErrorKind::FileTooLarge));
+        if let Some(long) = &turn.long {
+            for file in files.iter() {
+                noted(long.check(file.name.as_str(), file.text.len()))?;
+            }
         }
         for file in files {
             let File { name, text, .. } = file;
@@ -67,19 +73,11 @@ impl<'a> FolderStore<'a> {
     }
 }
 
-/// Returns the number of bytes in the files.
-fn bytes_of(files: &[File]) -> usize {
-    let mut bytes = 0usize;
-    for file in files.iter() {
-        bytes = bytes.saturating_add(file.text.len());
-    }
-    bytes
-}
-
-/// Returns the result of a note as an I/O result; every error becomes `OutOfMemory`.
-fn noted(attempt: Result<(), DeviceFault>) -> io::Result<()> {
+/// Returns the result of a call for the saves of a turn as an I/O result; every error becomes
+/// `OutOfMemory`.
+pub(crate) fn noted<T>(attempt: Result<T, DeviceFault>) -> io::Result<T> {
     match attempt {
-        Ok(()) => Ok(()),
+        Ok(value) => Ok(value),
         Err(_) => Err(io::Error::from(ErrorKind::OutOfMemory)),
     }
 }

@@ -6,6 +6,8 @@ use crate::marks::{hide, is_hidden, show};
 use bg_console::path_in;
 use bg_etcd::File;
 use bg_requests::is_name;
+use bg_wire::{LoadFault, load};
+use std::alloc::Global;
 use std::fs::DirBuilder;
 use std::io::ErrorKind;
 use std::os::unix::fs::DirBuilderExt;
@@ -211,6 +213,34 @@ impl<'a> Copies<'a> {
         Ok(files)
     }
 
+    /// Returns all files of a match that the store is to have. Of the two slots of a party, that is
+    /// the one with the newer save, so that the files of a long match fit into one transaction.
+    ///
+    /// # Errors
+    /// The reason why they can't be read.
+    pub fn all_files(&self, folder: &str) -> io::Result<Vec<File>> {
+        let mut files = self.files(folder, &BESIDE_SLOTS)?;
+        for slots in SLOTS.chunks(2) {
+            if let Some(file) = self.newer_file(folder, slots)? {
+                files.push(file)?;
+            }
+        }
+        Ok(files)
+    }
+
+    /// Returns the file of the slot with the newer save, or the first one if neither has a save.
+    fn newer_file(&self, folder: &str, slots: &[&str]) -> io::Result<Option<File>> {
+        let (mut newer, mut newest) = (None, 0);
+        for file in self.files(folder, slots)? {
+            let save = save_in(self.rt.alloc(), &file.text)?;
+            if newer.is_none() || save > newest {
+                newest = save;
+                newer = Some(file);
+            }
+        }
+        Ok(newer)
+    }
+
     /// Returns the text that the store is to have for a file; `None` if there is no such file.
     fn text_of(&self, folder: &str, file: &str) -> io::Result<Option<Vec<u8>>> {
         let alloc = self.rt.alloc();
@@ -225,5 +255,14 @@ impl<'a> Copies<'a> {
             Err(error) if error.kind() == ErrorKind::NotFound => Ok(None),
             read => Ok(Some(read?)),
         }
+    }
+}
+
+/// Returns the number of the save that a text has; 0 if it has none.
+fn save_in(alloc: Global, text: &[u8]) -> io::Result<u32> {
+    match load(alloc, text) {
+        Ok(saved) => Ok(saved.save),
+        Err(LoadFault::Memory) => Err(io::Error::from(ErrorKind::OutOfMemory)),
+        Err(_) => Ok(0),
     }
 }

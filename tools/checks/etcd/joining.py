@@ -48,6 +48,13 @@ def begin_anew(fleet, cluster, room, own, name, port):
     folder = fleet[0].folder
     refused(fleet[0].command[1:], 1, f"{words} has nothing more of what {folder} is a copy of: restore it from a snapshot")
     first = Sharing(own, port, words)
+    # A match that is too long for the cluster is named, and nothing is begun.
+    longer = os.path.join(own, "longer")
+    shutil.copytree(os.path.join(own, name), longer)
+    with open(os.path.join(longer, "party-0.1"), "wb") as file:
+        file.write(bytes(450_001))
+    refused(first.command[1:], 2, f"the match longer in {own} has more than the 450000 bytes that {words} takes")
+    shutil.rmtree(longer)
     fleet.begin_one(first)
     refused(fleet[0].command[1:], 2, f"{folder} is a copy of another store than {words}")
     empty = os.path.join(room, "empty")

@@ -1,5 +1,6 @@
 """Matches whose saves come near the most that a store takes, and those of which it takes no more (docs/SERVING.md,
 "Several servers"). As nobody plays so long, copies of a match get a longer record before they are restored."""
+import itertools
 import json
 import os
 import shutil
@@ -31,7 +32,9 @@ def fill_matches(fleet):
     made, other = fleet[0].make(length=3), fleet[0].make(length=3)
     name, short = made["match"], fleet[0].folder + "-short"
     right(fleet.all_have(name, 1) and fleet.all_have(other["match"], 1), "a match is not at all servers")
-    right(comes(lambda: os.path.exists(f"{fleet[0].folder}/{name}/party-0.1")), "a copy lacks the opening of a match")
+    for one in (made, other):
+        opening = f"{fleet[0].folder}/{one['match']}/party-0.1"
+        right(comes(lambda file=opening: os.path.exists(file)), "a copy lacks the opening of a match")
     right(manage(fleet[0], "--backup", short)[0] == 0, "matches are not copied")
     come_near(fleet, made, short)
     number = fill(fleet, made, short)
@@ -42,6 +45,7 @@ def fill_matches(fleet):
     right(comes(lambda: is_still(fleet[0])), "a full match takes time of a processor over and over after a kill")
     play_on(fleet[0], other, 5, 4)
     go_on_shorter(fleet, made, short)
+    leave_out(fleet, other, short)
 
 
 def come_near(fleet, made, short):
@@ -82,6 +86,28 @@ def go_on_shorter(fleet, made, short):
         right(are_at(fleet, made["match"], number), f"servers lack entry {number} of a copy in place of a full match")
 
 
+def leave_out(fleet, made, short):
+    """No server takes in a match that is restored with longer saves than the store takes. The server where it was restored
+    names it once, and once more when it is begun anew, and then removes it."""
+    name, server = made["match"], fleet[0]
+    longer, _ = lengthened(short, name, MOST + CLAIM + 2 * len(REJECTED))
+    right(manage(server, "--match", name, "--delete")[0] == 0, "a match is not deleted")
+    told(server, fleet)
+    status, _, words = manage(server, "--match", name, "--restore", longer)
+    right(status == 0 and "has not answered within 5 seconds" in words, f"restoring what is too long: {status} {words}")
+    name_left_out(fleet, made)
+    fleet.begin_again(server)
+    name_left_out(fleet, made)
+    right(not os.path.exists(f"{server.folder}/{name}"), "a match that is too long is not removed")
+
+
+def name_left_out(fleet, made):
+    """The first server has said once that a match is too long, and no server has it."""
+    said = told(fleet[0], fleet)
+    right(is_told(said, made, 0, 1), f"a match that is restored is not said once to be too long: {said}")
+    right(all(number_at(server, made["match"]) is None for server in fleet.servers), "a match that is too long is there")
+
+
 def refuse(fleet, at, made, number, near):
     """A server refuses what does not fit behind this entry, an offer, as often as it is sent, and says once why. Since
     it was asked last, it has said so many times that the match comes near. What was done it shows, and says so where it
@@ -103,7 +129,8 @@ def refuse(fleet, at, made, number, near):
 
 def lengthened(short, name, most):
     """A longer copy of a match that has its opening alone: all parties have a record behind which the third action is
-    an offer, with whose claim a save has so many bytes. Gives the folder, and how many entries that record has."""
+    an offer, with whose claim a save has so many bytes. Each has it in both of its slots, the newer save in the second.
+    Gives the folder, and how many entries that record has."""
     longer = f"{short}-{most}"
     shutil.copytree(f"{short}/{name}", f"{longer}/{name}")
     with open(f"{longer}/{name}/party-0.1", "rb") as file:
@@ -112,9 +139,10 @@ def lengthened(short, name, most):
     often = (most - CLAIM - len(text)) // len(REJECTED) - 1
     number = 1 + 2 * often
     entries = text[HEADER:] + often * REJECTED
-    for party in range(3):
-        with open(f"{longer}/{name}/party-{party}.1", "wb") as file:
-            file.write(text[:4] + bytes([party]) + text[5:20] + number.to_bytes(4, "big") + entries)
+    for party, slot in itertools.product(range(3), range(2)):
+        with open(f"{longer}/{name}/party-{party}.{slot}", "wb") as file:
+            front = text[:4] + bytes([party]) + text[5:15] + (slot + 2).to_bytes(4, "big") + text[19:20]
+            file.write(front + number.to_bytes(4, "big") + entries)
     return longer, number
 
 
