@@ -1,6 +1,7 @@
 //! Reading the records of matches from their folders.
 
 use crate::folders::FolderStore;
+use crate::notes::noted;
 use bg_console::path_in;
 use bg_match::Record;
 use bg_processes::{MatchFile, read_saved};
@@ -30,7 +31,7 @@ impl<'a> FolderStore<'a> {
     fn saved_in(&self, name: &str, slot: &str) -> io::Result<Vec<u8>> {
         let file = path_in(self.rt.alloc(), name, slot)?;
         if let Some(turn) = &self.turn {
-            if let Ok(Some(text)) = turn.newest(self.rt.alloc(), file.as_str()) {
+            if let Some(text) = noted(turn.newest(self.rt.alloc(), file.as_str()))? {
                 return Ok(text);
             }
         }
