@@ -4,6 +4,7 @@ use crate::keepers::{Shelf, ShelfKeeper};
 use bg_auto::auto_action;
 use bg_hosted::HostedMatch;
 use bg_match::{Actor, Rules, Terms};
+use bg_stores::LongTexts;
 use std::alloc::Global;
 use std::process::Abort;
 
@@ -84,6 +85,22 @@ fn act(alloc: Global, hosted: &mut HostedMatch<ShelfKeeper<'_>>, number: u32) {
     if let Ok(Some(action)) = auto_action(alloc, record, player) {
         let _ = hosted.act(player, number, action);
     }
+}
+
+/// A match that is too long is told at last, though there was no memory at first.
+#[test]
+fn refused_growths_of_a_match_that_is_too_long(rt: HostRuntime) {
+    check_too_long(&rt);
+}
+
+fn check_too_long(rt: &(impl Abort + AllocGlobal)) {
+    let long = LongTexts::none(rt.alloc());
+    for _ in 0..2u32 {
+        let _ = long.check("long/party-0.1", 450_001);
+    }
+    let is_told = long.next_untold().is_some() || long.next_untold().is_some();
+    assert!(rt; is_told, "the match is told");
+    check_no_growth_is_left(rt);
 }
 
 /// Fails where the growth that comes next is refused: so `tools/checks/refuse_growths` learns how

@@ -20,4 +20,6 @@ mod queues;
 #[cfg(test)]
 mod requests;
 #[cfg(test)]
+mod stores;
+#[cfg(test)]
 mod uses;

@@ -46,13 +46,13 @@ impl LongTexts {
         Ok(())
     }
 
-    /// Notes a match, unless it is already noted with the same `is_full`.
+    /// Notes a match, unless it is already noted with the same `is_full`, or as full.
     fn note(&self, name: &str, is_full: bool) -> Result<(), DeviceFault> {
         let Ok(mut found) = self.found.try_borrow_mut() else {
             return Ok(());
         };
         for long in found.iter() {
-            if long.name.as_str() == name && long.is_full == is_full {
+            if long.name.as_str() == name && (long.is_full || !is_full) {
                 return Ok(());
             }
         }
@@ -82,15 +82,15 @@ impl LongTexts {
     }
 
     /// Returns the name of the next match that was not reported yet, and whether it is full. Marks
-    /// the match as reported.
+    /// the match as reported. Returns `None` if there is none, or no memory for its name.
     pub fn next_untold(&self) -> Option<(String, bool)> {
         let Ok(mut found) = self.found.try_borrow_mut() else {
             return None;
         };
         for long in found.iter_mut() {
             if !long.is_told {
-                long.is_told = true;
                 let name = String::from_str(self.alloc, long.name.as_str()).ok()?;
+                long.is_told = true;
                 return Some((name, long.is_full));
             }
         }
