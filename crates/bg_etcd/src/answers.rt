@@ -32,12 +32,14 @@ pub struct Taken {
 ///
 /// # Errors
 /// `Refused` if the status says that it is an error, with etcd's reason; `Unreadable` if it isn't
-/// JSON.
+/// JSON; `Memory` if memory runs out.
 pub(crate) fn value_in(alloc: Global, status: u16, body: &[u8]) -> Result<Value, Fault> {
-    let value = match Value::from_slice(alloc, body) {
+    let value = match Value::from_slice(alloc, body).map_err(Fault::from) {
         Ok(value) => value,
-        Err(_) if status == 200 => return Err(Fault::Unreadable),
-        Err(_) => return Err(Fault::Refused(status, String::new(alloc))),
+        Err(Fault::Unreadable) if status != 200 => {
+            return Err(Fault::Refused(status, String::new(alloc)));
+        }
+        Err(fault) => return Err(fault),
     };
     if status == 200 {
         return Ok(value);
@@ -72,10 +74,7 @@ pub(crate) fn bytes_in(alloc: Global, value: &Value, member: &str) -> Result<Vec
     let Some(text) = text_in(value, member) else {
         return Ok(Vec::new(alloc));
     };
-    match STANDARD.decode(alloc, text.as_bytes()) {
-        Ok(bytes) => Ok(bytes),
-        Err(_) => Err(Fault::Unreadable),
-    }
+    Ok(STANDARD.decode(alloc, text.as_bytes())?)
 }
 
 /// Returns the name of the file whose key is in an object; `None` if the key isn't that of a file.

@@ -1,6 +1,8 @@
 //! The reasons why a cluster has not carried out a request.
 
+use base64::DecodeAllocError;
 use http1::{ReadError, WriteError};
+use serde_json::Category;
 use std::alloc::AllocError;
 use std::io;
 use std::io::ErrorKind;
@@ -44,6 +46,24 @@ impl From<WriteError> for Fault {
         match error {
             WriteError::OutOfMemory => Fault::Memory,
             _ => Fault::Unreadable,
+        }
+    }
+}
+
+impl From<serde_json::Error> for Fault {
+    fn from(error: serde_json::Error) -> Fault {
+        match error.classify() {
+            Category::Memory => Fault::Memory,
+            _ => Fault::Unreadable,
+        }
+    }
+}
+
+impl From<DecodeAllocError> for Fault {
+    fn from(error: DecodeAllocError) -> Fault {
+        match error {
+            DecodeAllocError::OutOfMemory => Fault::Memory,
+            DecodeAllocError::DecodeError(_) => Fault::Unreadable,
         }
     }
 }

@@ -31,9 +31,7 @@ pub enum News {
 /// `Away` if the line says that the watch fails, for instance because the member stops;
 /// `Unreadable` if it isn't a line of etcd; `Memory` if memory runs out.
 pub fn news_in(alloc: Global, line: &[u8]) -> Result<News, Fault> {
-    let Ok(value) = Value::from_slice(alloc, line) else {
-        return Err(Fault::Unreadable);
-    };
+    let value = Value::from_slice(alloc, line)?;
     let Some(told) = value.get("result") else {
         return Err(Fault::Away(ErrorKind::UnexpectedEof));
     };

@@ -2,5 +2,6 @@
 //! answered.
 
 mod exchanges;
+mod growths;
 mod texts;
 mod uses;
