@@ -192,13 +192,18 @@ fn parts_of(row: &str) -> Option<(&str, &str, &str)> {
     Some((body, status, words))
 }
 
-/// Keys of one order after the other, and how many matches there are then.
-const KEYS: [(&str, usize); 5] = [
+/// Keys of one order after the other, and how many matches there are then. Those of 16 bytes and
+/// more are remembered.
+const KEYS: [(&str, usize); 9] = [
     ("0123456789abcdef", 1),
     ("0123456789abcdef", 1),
     ("0123456789abcdeg", 2),
     ("easy", 3),
     ("easy", 4),
+    ("0123456789abcde", 5),
+    ("0123456789abcde", 6),
+    ("äöüäöüäö", 7),
+    ("äöüäöüäö", 7),
 ];
 
 #[test]
