@@ -1,5 +1,5 @@
 //! What devices note of their failures, until it is taken out.
-use crate::helpers::told;
+use crate::helpers::{check, told};
 use bg_system::{DrainedFailures, FailedCall, Failures, FirstFailures, SlotName};
 use bg_wire::Slot;
 use std::io;
@@ -27,7 +27,7 @@ fn check_words(rt: &(impl AllocGlobal + Abort), call: FailedCall, words: &str) {
     failures.note(call, io::Error::from(ErrorKind::PermissionDenied));
     let said = told(rt, &failures, "o'hara\n");
     let found = said.as_str().strip_suffix(": permission denied\n");
-    assert!(rt; found == Some(words), "{said}");
+    check(rt, found == Some(words), &said);
 }
 
 #[test]

@@ -24,6 +24,12 @@ pub(crate) trait Host: Hosted + AllocGlobal + Abort {}
 
 impl<R: Hosted + AllocGlobal + Abort> Host for R {}
 
+/// Ends the test with its row, or with what was said, where something is not so. A message with a
+/// value in it takes a second to prove: so tests share this one.
+pub(crate) fn check(rt: &impl Abort, is_so: bool, row: &str) {
+    assert!(rt; is_so, "{row}");
+}
+
 /// The number of this process.
 fn number(host: &HostRuntime) -> u32 {
     std::process::id(host.process())
@@ -116,5 +122,5 @@ pub(crate) fn told(rt: &(impl AllocGlobal + Abort), failures: &Failures, folder:
 /// Takes the failures out, of devices over the folder `DIR`: they are told by these lines.
 pub(crate) fn check_told(rt: &(impl AllocGlobal + Abort), failures: &Failures, lines: &str) {
     let said = told(rt, failures, "DIR");
-    assert!(rt; said.as_str() == lines, "{said}");
+    check(rt, said.as_str() == lines, &said);
 }

@@ -1,5 +1,7 @@
 //! Key files, and the secret that their keys are derived from.
-use crate::helpers::{Host, has_bytes, mode_of, new_folder, path_in, remove_folder, write_file};
+use crate::helpers::{
+    Host, check, has_bytes, mode_of, new_folder, path_in, remove_folder, write_file,
+};
 use crate::key_texts::{BAD, BAD_TEXTS, GOOD, is_good};
 use crate::seals::keys::{SECRET, key_of, secret};
 use bg_match::{Rules, Terms};
@@ -85,13 +87,13 @@ fn texts_of_key_files(rt: HostRuntime) {
 #[test]
 fn texts_of_no_key_file(rt: HostRuntime) {
     for row in GOOD.split('|') {
-        assert!(rt; is_good(&rt, row), "{row}");
+        check(&rt, is_good(&rt, row), row);
     }
     for row in BAD.split('|') {
-        assert!(rt; !is_good(&rt, row), "{row}");
+        check(&rt, !is_good(&rt, row), row);
     }
     for text in BAD_TEXTS.split('|') {
-        assert!(rt; KeyFile::parse(text).is_none(), "{text}");
+        check(&rt, KeyFile::parse(text).is_none(), text);
     }
 }
 
@@ -129,7 +131,7 @@ fn check_file(rt: &impl Host, folder: &str, party: u8, name: &str) {
     write_key(rt, folder, party);
     let file = read(rt, path).expect(rt, "a key file");
     let is_own = is_of(&file, party, key_of(1, party).bytes()) && mode_of(rt, path) == 0o600;
-    assert!(rt; is_own, "{name}");
+    check(rt, is_own, name);
     check_unread(rt, path, TEXT.trim_end().as_bytes());
     check_unread(rt, path, b"match 1");
     check_unread(rt, path, &[0xff, 0xfe]);

@@ -1,4 +1,5 @@
 //! What goes between parties by their keys, and which datagrams count.
+use crate::helpers::check;
 use crate::seals::keys::{key_of, secret};
 use crate::words::{bytes_of, small_number, word};
 use bg_seals::{Key, MOST_PACKET_BYTES, SealedDatagram};
@@ -135,9 +136,9 @@ referee 0 0 424702030000000000000001010000000101010506 referee
 #[test]
 fn what_is_heard(rt: HostRuntime) {
     for row in HEARD.lines() {
-        assert!(rt; is_heard(&rt, row), "{row}");
+        check(&rt, is_heard(&rt, row), row);
     }
     for row in NOT_HEARD.lines() {
-        assert!(rt; !is_heard(&rt, row), "{row}");
+        check(&rt, !is_heard(&rt, row), row);
     }
 }

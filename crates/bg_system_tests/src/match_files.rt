@@ -1,5 +1,7 @@
 //! Match files, secrets, and files that are there whole.
-use crate::helpers::{Host, has_bytes, mode_of, new_folder, path_in, remove_folder, write_file};
+use crate::helpers::{
+    Host, check, has_bytes, mode_of, new_folder, path_in, remove_folder, write_file,
+};
 use bg_match::{Rules, Terms};
 use bg_system::{HIGHEST_PORT, LOWEST_PORT, MatchFile, make_secret, publish, read_secret};
 use std::io::ErrorKind;
@@ -29,7 +31,7 @@ const LEAST: MatchFile = MatchFile {
 fn check_text(rt: &(impl AllocGlobal + Abort), file: &MatchFile, text: &str) {
     let shown = format!(in rt.alloc(); "{file}").expect(rt, "memory for a file");
     let holds = shown.as_str() == text && MatchFile::parse(text) == Some(*file);
-    assert!(rt; holds, "{text}");
+    check(rt, holds, text);
 }
 
 #[test]
@@ -46,7 +48,7 @@ fn check_texts(rt: &(impl AllocGlobal + Abort)) {
 /// None of the texts between bars is that of a match file.
 fn check_none(rt: &impl Abort, texts: &str) {
     for text in texts.split('|') {
-        assert!(rt; MatchFile::parse(text).is_none(), "{text}");
+        check(rt, MatchFile::parse(text).is_none(), text);
     }
 }
 

@@ -1,5 +1,5 @@
 //! Match files and key files with the names of players, and their texts.
-use crate::helpers::{Host, lasting, path_in};
+use crate::helpers::{Host, check, lasting, path_in};
 use crate::seals::keys::secret;
 use bg_match::{Rules, Terms};
 use bg_system::{KeyFile, KeyFiles, MatchFile, Name, NamedMatch, Names};
@@ -97,7 +97,7 @@ pub(crate) fn check_match_file(rt: &(impl AllocGlobal + Abort), section: &str) {
         names,
     };
     let holds = is_text_of(rt, text, &file) && is_of_the_match(text);
-    assert!(rt; holds, "{section}");
+    check(rt, holds, section);
 }
 
 /// What stands behind the line of a match that is no name, or not where it belongs; between bars.
@@ -127,7 +127,7 @@ pub(crate) const NOT_NAMED: &str = "\n|\
 
 pub(crate) fn check_no_match_file(rt: &impl Abort, text: &str) {
     let is_none = NamedMatch::parse(text).is_none() && MatchFile::parse(text).is_none();
-    assert!(rt; is_none, "{text}");
+    check(rt, is_none, text);
 }
 
 /// The last line of a key file.
@@ -149,12 +149,12 @@ pub(crate) fn check_key_file(rt: &(impl AllocGlobal + Abort), section: &str) {
     let (names, lines) = parted(rt, section);
     let text = text_of(rt, lines, KEY);
     let file = KeyFile::parse(text).expect(rt, section);
-    assert!(rt; is_named_in(rt, text, &file, &names), "{section}");
+    check(rt, is_named_in(rt, text, &file, &names), section);
 }
 
 pub(crate) fn check_no_key_file(rt: &(impl AllocGlobal + Abort), lines: &str, end: &str) {
     let text = text_of(rt, lines, end);
-    assert!(rt; KeyFile::parse(text).is_none(), "{lines}");
+    check(rt, KeyFile::parse(text).is_none(), lines);
 }
 
 /// A file is written into a folder, and read as it was.

@@ -1,5 +1,5 @@
 //! The names of players, and the match files and key files that have them.
-use crate::helpers::{Host, new_folder, remove_folder};
+use crate::helpers::{Host, check, new_folder, remove_folder};
 use crate::named_files::{
     KEY, NAMED, NOT_NAMED, TABLE, check_key_file, check_match_file, check_no_key_file,
     check_no_match_file, check_written, check_written_key, is_named, name_of, named_keys, names_of,
@@ -41,7 +41,7 @@ J\u{f6}rg \u{1f3b2}
 fn check_name(rt: &(impl AllocGlobal + Abort), text: &str) {
     let name = name_of(rt, text);
     let shown = format!(in rt.alloc(); "{name}").expect(rt, "memory for a name");
-    assert!(rt; name.as_str() == text && shown.as_str() == text, "{text}");
+    check(rt, name.as_str() == text && shown.as_str() == text, text);
 }
 
 #[test]

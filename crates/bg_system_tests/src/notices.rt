@@ -1,4 +1,5 @@
 //! What a seat is told of the other one, and which datagrams count.
+use crate::helpers::check;
 use crate::keyrings::{PORT, address, heard_by, keys_of, party, referee, sealed};
 use crate::words::{bytes_of, port, small_number, word};
 use bg_system::{Keyring, Presence, SIGN_OF_LIFE, told};
@@ -67,11 +68,11 @@ fn check_strays(rt: &(impl AllocGlobal + Abort)) {
     let (keys, here) = (referee(), address(PORT));
     for word in "- 00 0003 0101 000100 01".split(' ') {
         let found = told_by(&keys, 1, bytes_of(rt, word), 1, here);
-        assert!(rt; found.is_none(), "{word}");
+        check(rt, found.is_none(), word);
     }
     assert!(rt; told_by(&keys, 1, SIGN_OF_LIFE, 1, here).is_none());
     for row in STRAYS.lines() {
-        assert!(rt; told_in(rt, row).is_none(), "{row}");
+        check(rt, told_in(rt, row).is_none(), row);
     }
     let elsewhere = SocketAddr::from((Ipv4Addr::new(127, 0, 0, 2), PORT));
     assert!(rt;

@@ -1,4 +1,5 @@
 //! What calls of the files of a party come to.
+use crate::helpers::check;
 use bg_system::{Failures, PartyFiles};
 use bg_wire::Slot;
 use std::io::ErrorKind;
@@ -75,5 +76,5 @@ pub(crate) fn check_have(
     when: &str,
 ) {
     let have = has(files, Slot::Zero, zero) && has(files, Slot::One, one);
-    assert!(rt; have, "{when}");
+    check(rt, have, when);
 }

@@ -1,4 +1,5 @@
 //! Datagrams that are sealed and opened, and those that are not opened.
+use crate::helpers::check;
 use crate::seals::keys::{SECRET, key_of, secret};
 use crate::words::{bytes_of, bytes_of_both, small_number, word};
 use bg_seals::{Direction, Key, MOST_PACKET_BYTES, MasterSecret, TAG_BYTES};
@@ -56,7 +57,7 @@ fn check_row(rt: &(impl AllocGlobal + Abort), key: &Key, row: &str) {
     let datagram = bytes_of_both(rt, word(rt, row, 2), word(rt, row, 3));
     let holds = is_sealed_as(key, way, party, packet, datagram)
         && is_opened_as(key, way, party, datagram, packet);
-    assert!(rt; holds, "{row}");
+    check(rt, holds, row);
 }
 
 #[test]
@@ -126,10 +127,10 @@ fn is_opened_under(rt: &impl Abort, secret: &MasterSecret, row: &str) -> bool {
 fn other_matches_parties_and_ways(rt: HostRuntime) {
     let secret = secret();
     for row in OTHERS.lines() {
-        assert!(rt; !is_opened_under(&rt, &secret, row), "{row}");
+        check(&rt, !is_opened_under(&rt, &secret, row), row);
     }
     let row = "1 3 to 3";
-    assert!(rt; is_opened_under(&rt, &secret, row), "{row}");
+    check(&rt, is_opened_under(&rt, &secret, row), row);
     let other = MasterSecret::new(&[7; 32]);
     assert!(rt; !is_opened_under(&rt, &other, row), "another secret");
 }

@@ -1,4 +1,5 @@
 //! Keys that are derived, and what is shown of them.
+use crate::helpers::check;
 use crate::words::{bytes_of, number, small_number, word};
 use bg_seals::{KEY_BYTES, Key, MasterSecret};
 use std::process::Abort;
@@ -35,7 +36,7 @@ fn check_key(rt: &(impl AllocGlobal + Abort), row: &str) {
     let party = small_number(rt, word(rt, row, 1));
     let bytes = bytes_of(rt, word(rt, row, 2));
     let key = key_of(id, party);
-    assert!(rt; key.bytes().as_slice() == bytes, "{row}");
+    check(rt, key.bytes().as_slice() == bytes, row);
 }
 
 #[test]
