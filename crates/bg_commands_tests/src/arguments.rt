@@ -1,6 +1,7 @@
 //! What the words of each command ask for.
 mod requests;
 
+use crate::checks::check;
 use crate::command_lines::check_refused;
 use crate::lasting::{lasting, lasting_text};
 use bg_options::{Request, RequestFault, command_line};
@@ -65,9 +66,10 @@ fn fault_of(alloc: Global, words: &[&str]) -> Option<RequestFault> {
     Request::read(&matches).err()
 }
 
-/// Whether such words, with a bar between two of them, are refused for this.
-fn is_refused(rt: &(impl AllocGlobal + Abort), words: &str, fault: RequestFault) -> bool {
-    fault_of(rt.alloc(), line_of(rt, words)) == Some(fault)
+/// Such words, with a bar between two of them, are refused for this.
+fn check_fault(rt: &(impl AllocGlobal + Abort), words: &str, fault: RequestFault) {
+    let found = fault_of(rt.alloc(), line_of(rt, words));
+    check(rt, found == Some(fault), words);
 }
 
 /// The words of a command line, with the program's name.
@@ -91,7 +93,7 @@ fn asks(alloc: Global, row: usize, words: &[&str]) -> bool {
 #[test]
 fn words_of_each_command(rt: HostRuntime) {
     for (row, words) in WORDS.iter().enumerate() {
-        assert!(rt; asks(rt.alloc(), row, line_of(&rt, words)), "{words}");
+        check(&rt, asks(rt.alloc(), row, line_of(&rt, words)), words);
     }
 }
 
@@ -105,10 +107,7 @@ fn misplaced_files(rt: HostRuntime) {
         ("page", "page|file"),
         ("picture", "picture|file"),
     ] {
-        assert!(rt;
-            is_refused(&rt, words, RequestFault::MisplacedFile(name)),
-            "{words}"
-        );
+        check_fault(&rt, words, RequestFault::MisplacedFile(name));
     }
 }
 
@@ -120,7 +119,7 @@ fn batches_that_are_refused(rt: HostRuntime) {
         ("export|--out|d", RequestFault::NoFiles),
         ("import|--out|d|--headers|h|a", RequestFault::HeadersOfMany),
     ] {
-        assert!(rt; is_refused(&rt, words, fault), "{words}");
+        check_fault(&rt, words, fault);
     }
 }
 
@@ -134,8 +133,7 @@ fn headers_that_are_refused(rt: HostRuntime) {
         ("event", "export|--event="),
         ("place", "export|--place="),
     ] {
-        let fault = RequestFault::Name(option, NameFault::Length);
-        assert!(rt; is_refused(&rt, words, fault), "{words}");
+        check_fault(&rt, words, RequestFault::Name(option, NameFault::Length));
     }
 }
 
@@ -169,9 +167,9 @@ fn names_that_are_refused(rt: HostRuntime) {
         ),
     ] {
         let fault = RequestFault::Name(option, why);
-        assert!(rt; is_refused(&rt, words, fault), "{words}");
+        check_fault(&rt, words, fault);
         let said = said_of(&rt, fault);
-        assert!(rt; said == wanted, "{said}");
+        check(&rt, said == wanted, said);
     }
 }
 

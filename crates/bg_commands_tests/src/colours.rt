@@ -1,5 +1,6 @@
 //! The colours of checkers and of offers, and the texts without them; and the lines that texts are
 //! broken into.
+use crate::checks::check;
 use bg_board::Player;
 use bg_console::{broken, with_bold_offers, with_coloured_checkers};
 use std::process::Abort;
@@ -82,8 +83,8 @@ fn checkers_have_the_colours_of_their_players(rt: HostRuntime) {
         ("", Player::O, ""),
     ] {
         let coloured = coloured(&rt, text, bold);
-        assert!(rt; coloured == wanted.as_bytes(), "{text}");
-        assert!(rt; plain(&rt, coloured) == text.as_bytes(), "{text}");
+        let is_so = coloured == wanted.as_bytes() && plain(&rt, coloured) == text.as_bytes();
+        check(&rt, is_so, text);
     }
 }
 
@@ -103,8 +104,8 @@ fn offers_are_bold(rt: HostRuntime) {
         ("", ""),
     ] {
         let bold = offered(&rt, text);
-        assert!(rt; bold == wanted.as_bytes(), "{text}");
-        assert!(rt; plain(&rt, bold) == text.as_bytes(), "{text}");
+        let is_so = bold == wanted.as_bytes() && plain(&rt, bold) == text.as_bytes();
+        check(&rt, is_so, text);
     }
 }
 

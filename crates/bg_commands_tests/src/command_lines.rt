@@ -1,4 +1,5 @@
 //! Command lines: which words are refused, and what help they give.
+use crate::checks::check;
 use bg_options::{TASKS, command_line};
 use clap::error::ErrorKind;
 use std::alloc::Global;
@@ -13,7 +14,7 @@ pub(crate) fn check_refused(
     on_stderr: bool,
 ) {
     let refused = refusal(rt.alloc(), words.get(1).copied(), words);
-    assert!(rt; refused == Some((kind, on_stderr)), "{row}");
+    check(rt, refused == Some((kind, on_stderr)), row);
 }
 
 /// How the command line that help is given of refuses words, and whether that is an error; nothing
@@ -34,7 +35,7 @@ fn each_name_has_its_command(rt: HostRuntime) {
         let words = ["bg_relay", name, "--help"];
         check_refused(&rt, name, &words, help, false);
         let among_all = refusal(rt.alloc(), None, &words);
-        assert!(rt; among_all == Some((help, false)), "{name}");
+        check(&rt, among_all == Some((help, false)), name);
     }
 }
 

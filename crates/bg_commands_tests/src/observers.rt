@@ -55,6 +55,16 @@ fn heard_of(rt: &HostRuntime, folder: &str, rounds: u32) -> (Result<(), LoopFaul
     (played, heard)
 }
 
+/// So many rounds were told, one after the other, and this event last.
+fn check_heard(rt: &impl Abort, heard: &Heard, rounds: u32, last: (u8, bool)) {
+    assert!(rt;
+        heard.rounds == rounds && heard.in_order,
+        "{} rounds",
+        heard.rounds
+    );
+    assert!(rt; heard.last == Some(last), "{:?}", heard.last);
+}
+
 /// Removes a folder with all that it has.
 fn remove(rt: &impl Abort, host: &HostRuntime, folder: &str) {
     fs::remove_dir_all(host, folder).expect(rt, "the folder is removed");
@@ -65,13 +75,8 @@ fn rounds_are_told_from_the_first(rt: HostRuntime) {
     let folder = lasting_folder(&rt, &rt, "told-rounds");
     let (played, heard) = heard_of(&rt, folder, 3);
     assert!(rt; played == Ok(()), "{played:?}");
-    assert!(rt;
-        heard.rounds == 3 && heard.in_order,
-        "{} rounds",
-        heard.rounds
-    );
     // A round ends with the tick of the watcher.
-    assert!(rt; heard.last == Some((3, false)), "{:?}", heard.last);
+    check_heard(&rt, &heard, 3, (3, false));
     remove(&rt, &rt, folder);
 }
 
@@ -88,8 +93,7 @@ fn the_event_that_ends_a_match_is_told(rt: HostRuntime) {
     let (played, heard) = heard_of(&rt, folder, 3);
     let damaged = LoopFault::Stopped(Outcome::RestoreFault(RestoreCause::Damaged));
     assert!(rt; played == Err(damaged), "it played on");
-    assert!(rt; heard.last == Some((0, true)), "{:?}", heard.last);
-    assert!(rt; heard.rounds == 0, "{} rounds", heard.rounds);
+    check_heard(&rt, &heard, 0, (0, true));
     remove(&rt, &rt, folder);
 }
 

@@ -1,4 +1,5 @@
 //! What the operator of a match over sockets and files is told.
+use crate::checks::check;
 use crate::folders::{lasting_folder, path_in};
 use crate::kept_output::KeptOutput;
 use crate::lasting::lasting;
@@ -105,7 +106,7 @@ fn signs_of_files_of_different_ages(rt: HostRuntime) {
         ),
     ] {
         let said = said_of_take(&rt, &rt, party, &outcome);
-        assert!(rt; is_sign(said, sign), "{said}");
+        check(&rt, is_sign(said, sign), said);
     }
 }
 
@@ -122,7 +123,7 @@ fn outcomes_of_which_nothing_is_said(rt: HostRuntime) {
         Outcome::LinkFault,
     ] {
         let said = said_of_take(&rt, &rt, 0, &outcome);
-        assert!(rt; said.is_empty(), "{said}");
+        check(&rt, said.is_empty(), said);
     }
 }
 
@@ -151,7 +152,7 @@ fn seats_that_begin_with_more(rt: HostRuntime) {
         ((1, 0, 2), "party 2 has 2 entries saved, the referee 1"),
     ] {
         let said = said_at_start(&rt, &rt, held);
-        assert!(rt; is_sign(said, sign), "{said}");
+        check(&rt, is_sign(said, sign), said);
     }
     assert!(rt; said_at_start(&rt, &rt, (4, 4, 0)).is_empty());
 }
@@ -219,14 +220,12 @@ fn failures_of_devices(rt: HostRuntime) {
         assert!(rt; fails_to_save(keeper, told.operator));
     }
     let said = told.heard.said();
-    assert!(rt; is_missing(said, folder), "{said}");
+    check(&rt, is_missing(said, folder), said);
     assert!(rt; keeper.write(Slot::Zero, b"text") == Err(DeviceFault::Failed));
     told.operator.end();
     let said = told.heard.said();
-    assert!(rt;
-        said == "bg_relay: no save of party 1 succeeded\n",
-        "{said}"
-    );
+    let is_so = said == "bg_relay: no save of party 1 succeeded\n";
+    check(&rt, is_so, said);
 }
 
 /// What is said while so many rounds are played over the folder.
@@ -279,9 +278,7 @@ fn the_referee_of_an_older_day(rt: HostRuntime) {
     write(&rt, &rt, one, older.1);
     let said = said_while_played(&rt, &rt, folder, 60);
     let sign = said.strip_prefix(AGES).unwrap_or_default();
-    assert!(rt;
-        sign.starts_with("party 1 has ") && said.lines().count() == 1,
-        "{said}"
-    );
+    let is_so = sign.starts_with("party 1 has ") && said.lines().count() == 1;
+    check(&rt, is_so, said);
     fs::remove_dir_all(&rt, folder).expect(&rt, "the folder is removed");
 }

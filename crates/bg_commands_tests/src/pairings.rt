@@ -1,4 +1,5 @@
 //! How players are called where others look on.
+use crate::checks::check;
 use crate::lasting::lasting_text;
 use bg_console::{Called, Pairing, title_of};
 use bg_system::{Name, Names};
@@ -47,9 +48,9 @@ fn players_are_called(rt: HostRuntime) {
     ] {
         let names = names_of(&rt, x, o);
         let called = called_of(&rt, &names);
-        assert!(rt; called == wanted, "{called}");
+        check(&rt, called == wanted, called);
         let pairing = pairing_of(&rt, &names);
-        assert!(rt; pairing == wanted_of_both, "{pairing}");
+        check(&rt, pairing == wanted_of_both, pairing);
     }
 }
 
@@ -76,6 +77,6 @@ fn titles_of_pages(rt: HostRuntime) {
         (None, "", "", "Backgammon match"),
     ] {
         let title = title(&rt, &rt, given, x, o);
-        assert!(rt; title == wanted, "{title}");
+        check(&rt, title == wanted, title);
     }
 }
