@@ -122,15 +122,16 @@ fn is_in_use(refusal: Option<HostFault>) -> bool {
 /// match of another length or by other rules.
 #[test]
 fn hosts_answer(rt: HostRuntime) {
-    let folder = new_folder(&rt, "hosts-answer");
-    check_answers(&rt, folder);
-    remove_folder(&rt, folder);
+    check_answers(&rt);
 }
 
-fn check_answers(rt: &impl Host, folder: &str) {
+/// Two hosts, one after the other, tell the same.
+fn check_answers(rt: &impl Host) {
+    let folder = new_folder(rt, "hosts-answer");
     let first = first_answer(rt, folder);
     assert!(rt; is_first(&first));
     assert!(rt; later_answer(rt, folder) == first);
+    remove_folder(rt, folder);
 }
 
 /// What a first host tells, which then has served.
@@ -209,12 +210,18 @@ fn holds_three(seat: &Seat) -> bool {
 /// its acceptance.
 #[test]
 fn hosts_referee(rt: HostRuntime) {
-    let folder = new_folder(&rt, "hosts-referee");
-    check_refereed(&rt, folder);
-    remove_folder(&rt, folder);
+    check_refereed(&rt);
 }
 
-fn check_refereed(rt: &impl Host, folder: &str) {
+/// A match over a folder of its own.
+fn check_refereed(rt: &impl Host) {
+    let folder = new_folder(rt, "hosts-referee");
+    play_over(rt, folder);
+    remove_folder(rt, folder);
+}
+
+/// A host over the folder and two seats play a match.
+fn play_over(rt: &impl Host, folder: &str) {
     let mut host = open(rt, folder, 1);
     let (mut x, mut o) = (fresh(rt, Player::X), fresh(rt, Player::O));
     play_match(rt, &mut host, &mut x, &mut o);
@@ -285,25 +292,26 @@ fn goes_on<L: Link + Drop, K: Keeper + Drop>(mut world: World<L, K>) -> bool {
         && world.step(Event::Save { party: 0 }) == Outcome::Saved(2)
 }
 
-/// Why there is no world over the folder.
-fn no_world(host: &HostRuntime, folder: &str, setup: Setup) -> Option<BeginFault> {
-    world_over(host, folder, setup).err()
+/// Whether there is no world of another match over the folder, as its files are of this one.
+fn is_refused(host: &HostRuntime, folder: &str) -> bool {
+    let other = world_over(host, folder, Setup { id: 2, ..SETUP });
+    matches!(other, Err(BeginFault::Restart(0, _)))
 }
 
 /// A world over devices of one's own, and a later one over the same files.
 #[test]
 fn worlds_go_on(rt: HostRuntime) {
-    let folder = new_folder(&rt, "worlds-go-on");
-    check_worlds(&rt, folder);
-    remove_folder(&rt, folder);
+    check_worlds(&rt);
 }
 
-fn check_worlds(rt: &impl Host, folder: &str) {
+/// Worlds over one folder, one after the other.
+fn check_worlds(rt: &impl Host) {
     let host = rt.host();
+    let folder = new_folder(rt, "worlds-go-on");
     let first = world_over(host, folder, SETUP).expect(rt, "a world");
     assert!(rt; begins(first), "the match begins");
     let later = world_over(host, folder, SETUP).expect(rt, "a world");
     assert!(rt; goes_on(later), "the match goes on");
-    let refused = no_world(host, folder, Setup { id: 2, ..SETUP });
-    assert!(rt; matches!(refused, Some(BeginFault::Restart(0, _))));
+    assert!(rt; is_refused(host, folder));
+    remove_folder(rt, folder);
 }
