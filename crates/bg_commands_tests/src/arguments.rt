@@ -92,48 +92,77 @@ fn asks(alloc: Global, row: usize, words: &[&str]) -> bool {
 
 #[test]
 fn words_of_each_command(rt: HostRuntime) {
+    check_words(&rt);
+}
+
+/// Each row of words asks for what it should.
+fn check_words(rt: &(impl AllocGlobal + Abort)) {
     for (row, words) in WORDS.iter().enumerate() {
-        check(&rt, asks(rt.alloc(), row, line_of(&rt, words)), words);
+        check(rt, asks(rt.alloc(), row, line_of(rt, words)), words);
     }
 }
+
+/// Commands, and words that name a file to each.
+const MISPLACED: &[(&str, &str)] = &[
+    ("judge", "judge|file"),
+    ("import", "import|file"),
+    ("export", "export|file"),
+    ("page", "page|file"),
+    ("picture", "picture|file"),
+];
 
 /// A file that is named to a command which reads the standard input is said where it belongs.
 #[test]
 fn misplaced_files(rt: HostRuntime) {
-    for (name, words) in [
-        ("judge", "judge|file"),
-        ("import", "import|file"),
-        ("export", "export|file"),
-        ("page", "page|file"),
-        ("picture", "picture|file"),
-    ] {
-        check_fault(&rt, words, RequestFault::MisplacedFile(name));
+    check_misplaced(&rt);
+}
+
+/// Each command says where its file belongs.
+fn check_misplaced(rt: &(impl AllocGlobal + Abort)) {
+    for (name, words) in MISPLACED {
+        check_fault(rt, words, RequestFault::MisplacedFile(*name));
     }
 }
+
+/// Words of batches, and what is at fault in each.
+const BATCHES: &[(&str, RequestFault)] = &[
+    ("import|--out|d", RequestFault::NoFiles),
+    ("export|--out|d", RequestFault::NoFiles),
+    ("import|--out|d|--headers|h|a", RequestFault::HeadersOfMany),
+];
 
 /// Options for files and a folder that don't fit are said.
 #[test]
 fn batches_that_are_refused(rt: HostRuntime) {
-    for (words, fault) in [
-        ("import|--out|d", RequestFault::NoFiles),
-        ("export|--out|d", RequestFault::NoFiles),
-        ("import|--out|d|--headers|h|a", RequestFault::HeadersOfMany),
-    ] {
-        check_fault(&rt, words, fault);
+    check_batches(&rt);
+}
+
+/// Each command line has its fault.
+fn check_batches(rt: &(impl AllocGlobal + Abort)) {
+    for (words, fault) in BATCHES {
+        check_fault(rt, words, *fault);
     }
 }
+
+/// Options for headers, and words that give an empty one.
+const HEADERS: &[(&str, &str)] = &[
+    ("x", "export|--x="),
+    ("o", "export|--o="),
+    ("date", "export|--date="),
+    ("event", "export|--event="),
+    ("place", "export|--place="),
+];
 
 /// A text above a match is as clean as a name.
 #[test]
 fn headers_that_are_refused(rt: HostRuntime) {
-    for (option, words) in [
-        ("x", "export|--x="),
-        ("o", "export|--o="),
-        ("date", "export|--date="),
-        ("event", "export|--event="),
-        ("place", "export|--place="),
-    ] {
-        check_fault(&rt, words, RequestFault::Name(option, NameFault::Length));
+    check_headers(&rt);
+}
+
+/// None of these headers may be empty.
+fn check_headers(rt: &(impl AllocGlobal + Abort)) {
+    for (option, words) in HEADERS {
+        check_fault(rt, words, RequestFault::Name(*option, NameFault::Length));
     }
 }
 
@@ -143,33 +172,41 @@ fn said_of<'a>(rt: &(impl AllocGlobal + Abort), fault: RequestFault) -> &'a str 
     lasting_text(said.expect(rt, "memory"))
 }
 
+/// Options for names, words that give none, why, and what is said then.
+const NAMES: &[(&str, &str, NameFault, &str)] = &[
+    (
+        "name-x",
+        "new|--length|1|--port|4000|--dir|d|--name-x=",
+        NameFault::Length,
+        "--name-x is refused: a name has 1 to 64 bytes of UTF-8",
+    ),
+    (
+        "name-o",
+        "new|--length|1|--port|4000|--dir|d|--name-o= A",
+        NameFault::Blank,
+        "--name-o is refused: a name neither begins nor ends with a blank",
+    ),
+    (
+        "name-x",
+        "new|--length|1|--port|4000|--dir|d|--name-x=A\u{202e}",
+        NameFault::Character,
+        "--name-x is refused: a name has no control characters, and none that change the direction of a text",
+    ),
+];
+
 /// A name that is none is said, with its option.
 #[test]
 fn names_that_are_refused(rt: HostRuntime) {
-    for (option, words, why, wanted) in [
-        (
-            "name-x",
-            "new|--length|1|--port|4000|--dir|d|--name-x=",
-            NameFault::Length,
-            "--name-x is refused: a name has 1 to 64 bytes of UTF-8",
-        ),
-        (
-            "name-o",
-            "new|--length|1|--port|4000|--dir|d|--name-o= A",
-            NameFault::Blank,
-            "--name-o is refused: a name neither begins nor ends with a blank",
-        ),
-        (
-            "name-x",
-            "new|--length|1|--port|4000|--dir|d|--name-x=A\u{202e}",
-            NameFault::Character,
-            "--name-x is refused: a name has no control characters, and none that change the direction of a text",
-        ),
-    ] {
-        let fault = RequestFault::Name(option, why);
-        check_fault(&rt, words, fault);
-        let said = said_of(&rt, fault);
-        check(&rt, said == wanted, said);
+    check_names(&rt);
+}
+
+/// Each name has its fault, and the words for it.
+fn check_names(rt: &(impl AllocGlobal + Abort)) {
+    for (option, words, why, wanted) in NAMES {
+        let fault = RequestFault::Name(*option, *why);
+        check_fault(rt, words, fault);
+        let said = said_of(rt, fault);
+        check(rt, said == *wanted, said);
     }
 }
 

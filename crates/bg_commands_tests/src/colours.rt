@@ -69,22 +69,30 @@ fn coloured<'a>(rt: &(impl AllocGlobal + Abort), text: &str, bold: Player) -> &'
     coloured.expect(rt, "memory").leak()
 }
 
+/// Texts, who has bold checkers, and how the texts are with colours.
+const COLOURED: &[(&str, Player, &str)] = &[
+    (STACKS, Player::X, COLOURED_STACKS),
+    (ROWS, Player::O, COLOURED_ROWS),
+    (
+        "X roll 3 1\nO move bar-20\n",
+        Player::X,
+        "X roll 3 1\nO move bar-20\n",
+    ),
+    (OFFERS, Player::O, OFFERS),
+    ("", Player::O, ""),
+];
+
 #[test]
 fn checkers_have_the_colours_of_their_players(rt: HostRuntime) {
-    for (text, bold, wanted) in [
-        (STACKS, Player::X, COLOURED_STACKS),
-        (ROWS, Player::O, COLOURED_ROWS),
-        (
-            "X roll 3 1\nO move bar-20\n",
-            Player::X,
-            "X roll 3 1\nO move bar-20\n",
-        ),
-        (OFFERS, Player::O, OFFERS),
-        ("", Player::O, ""),
-    ] {
-        let coloured = coloured(&rt, text, bold);
-        let is_so = coloured == wanted.as_bytes() && plain(&rt, coloured) == text.as_bytes();
-        check(&rt, is_so, text);
+    check_colours(&rt);
+}
+
+/// Each text is coloured as it should be, and is the same without that.
+fn check_colours(rt: &(impl AllocGlobal + Abort)) {
+    for (text, bold, wanted) in COLOURED {
+        let coloured = coloured(rt, text, *bold);
+        let is_so = coloured == wanted.as_bytes() && plain(rt, coloured) == text.as_bytes();
+        check(rt, is_so, text);
     }
 }
 
@@ -94,18 +102,26 @@ fn offered<'a>(rt: &(impl AllocGlobal + Abort), text: &str) -> &'a [u8] {
     bold.expect(rt, "memory").leak()
 }
 
+/// Texts, and how they are with what is offered in bold.
+const OFFERED: &[(&str, &str)] = &[
+    (OFFERS, BOLD_OFFERS),
+    ("it is O's turn\n", "it is O's turn\n"),
+    ("your turn, X: roll", "your turn, X:\x1b[1m roll\x1b[0m"),
+    (STACKS, STACKS),
+    ("", ""),
+];
+
 #[test]
 fn offers_are_bold(rt: HostRuntime) {
-    for (text, wanted) in [
-        (OFFERS, BOLD_OFFERS),
-        ("it is O's turn\n", "it is O's turn\n"),
-        ("your turn, X: roll", "your turn, X:\x1b[1m roll\x1b[0m"),
-        (STACKS, STACKS),
-        ("", ""),
-    ] {
-        let bold = offered(&rt, text);
-        let is_so = bold == wanted.as_bytes() && plain(&rt, bold) == text.as_bytes();
-        check(&rt, is_so, text);
+    check_offers(&rt);
+}
+
+/// Each text is bold where it should be, and is the same without that.
+fn check_offers(rt: &(impl AllocGlobal + Abort)) {
+    for (text, wanted) in OFFERED {
+        let bold = offered(rt, text);
+        let is_so = bold == wanted.as_bytes() && plain(rt, bold) == text.as_bytes();
+        check(rt, is_so, text);
     }
 }
 
@@ -123,34 +139,42 @@ fn lines_of<'a>(rt: &(impl AllocGlobal + Abort), text: &str, columns: usize) -> 
     lines.expect(rt, "memory").leak()
 }
 
+/// So many columns, a text, and its lines.
+const BROKEN: &[(usize, &str, &str)] = &[
+    (
+        60,
+        TO_MOVE,
+        "your turn, X: move .. (`legal` lists the turns),\nresign normal, resign gammon, resign backgammon\n",
+    ),
+    (
+        40,
+        TO_MOVE,
+        "your turn, X:\nmove .. (`legal` lists the turns),\nresign normal, resign gammon,\nresign backgammon\n",
+    ),
+    (
+        30,
+        TO_MOVE,
+        "your turn, X: move .. (`legal`\nlists the turns),\nresign normal, resign gammon,\nresign backgammon\n",
+    ),
+    (
+        60,
+        TO_ROLL,
+        "your turn, O: roll, double, resign normal, resign gammon,\nresign backgammon\n",
+    ),
+    (20, NO_OFFER, "X is away, resign\nnormal, and wait\n"),
+    (4, "abcdef g\n\nh i\n", "abcdef\ng\n\nh i\n"),
+    (9, "", "\n"),
+];
+
 #[test]
 fn lines_break_between_words_and_offers(rt: HostRuntime) {
-    for (columns, text, wanted) in [
-        (
-            60,
-            TO_MOVE,
-            "your turn, X: move .. (`legal` lists the turns),\nresign normal, resign gammon, resign backgammon\n",
-        ),
-        (
-            40,
-            TO_MOVE,
-            "your turn, X:\nmove .. (`legal` lists the turns),\nresign normal, resign gammon,\nresign backgammon\n",
-        ),
-        (
-            30,
-            TO_MOVE,
-            "your turn, X: move .. (`legal`\nlists the turns),\nresign normal, resign gammon,\nresign backgammon\n",
-        ),
-        (
-            60,
-            TO_ROLL,
-            "your turn, O: roll, double, resign normal, resign gammon,\nresign backgammon\n",
-        ),
-        (20, NO_OFFER, "X is away, resign\nnormal, and wait\n"),
-        (4, "abcdef g\n\nh i\n", "abcdef\ng\n\nh i\n"),
-        (9, "", "\n"),
-    ] {
-        let lines = lines_of(&rt, text, columns);
+    check_lines(&rt);
+}
+
+/// Each text is broken at its columns.
+fn check_lines(rt: &(impl AllocGlobal + Abort)) {
+    for (columns, text, wanted) in BROKEN {
+        let lines = lines_of(rt, text, *columns);
         assert!(rt; lines == wanted.as_bytes(), "{text} in {columns} columns");
     }
 }

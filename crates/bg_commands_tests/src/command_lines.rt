@@ -30,12 +30,17 @@ fn refusal(alloc: Global, asked: Option<&str>, words: &[&str]) -> Option<(ErrorK
 /// Each command has its name, by itself and among all of them.
 #[test]
 fn each_name_has_its_command(rt: HostRuntime) {
+    check_names(&rt);
+}
+
+/// Help is shown of each.
+fn check_names(rt: &(impl AllocGlobal + Abort)) {
     let help = ErrorKind::DisplayHelp;
     for (name, _) in TASKS {
         let words = ["bg_relay", name, "--help"];
-        check_refused(&rt, name, &words, help, false);
+        check_refused(rt, name, &words, help, false);
         let among_all = refusal(rt.alloc(), None, &words);
-        check(&rt, among_all == Some((help, false)), name);
+        check(rt, among_all == Some((help, false)), name);
     }
 }
 

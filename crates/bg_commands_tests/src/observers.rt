@@ -72,12 +72,17 @@ fn remove(rt: &impl Abort, host: &HostRuntime, folder: &str) {
 
 #[test]
 fn rounds_are_told_from_the_first(rt: HostRuntime) {
-    let folder = lasting_folder(&rt, &rt, "told-rounds");
-    let (played, heard) = heard_of(&rt, folder, 3);
+    check_rounds(&rt, &rt);
+}
+
+/// Three rounds are told.
+fn check_rounds(rt: &(impl AllocGlobal + Abort), host: &HostRuntime) {
+    let folder = lasting_folder(rt, host, "told-rounds");
+    let (played, heard) = heard_of(host, folder, 3);
     assert!(rt; played == Ok(()), "{played:?}");
     // A round ends with the tick of the watcher.
-    check_heard(&rt, &heard, 3, (3, false));
-    remove(&rt, &rt, folder);
+    check_heard(rt, &heard, 3, (3, false));
+    remove(rt, host, folder);
 }
 
 /// A file has bytes that are no saved text.
@@ -87,14 +92,19 @@ fn damage(rt: &impl Abort, host: &HostRuntime, path: &str) {
 
 #[test]
 fn the_event_that_ends_a_match_is_told(rt: HostRuntime) {
-    let folder = lasting_folder(&rt, &rt, "told-end");
-    damage(&rt, &rt, path_in(&rt, folder, "party-0.0"));
-    damage(&rt, &rt, path_in(&rt, folder, "party-0.1"));
-    let (played, heard) = heard_of(&rt, folder, 3);
+    check_end(&rt, &rt);
+}
+
+/// A match ends at damaged files.
+fn check_end(rt: &(impl AllocGlobal + Abort), host: &HostRuntime) {
+    let folder = lasting_folder(rt, host, "told-end");
+    damage(rt, host, path_in(rt, folder, "party-0.0"));
+    damage(rt, host, path_in(rt, folder, "party-0.1"));
+    let (played, heard) = heard_of(host, folder, 3);
     let damaged = LoopFault::Stopped(Outcome::RestoreFault(RestoreCause::Damaged));
     assert!(rt; played == Err(damaged), "it played on");
-    check_heard(&rt, &heard, 0, (0, true));
-    remove(&rt, &rt, folder);
+    check_heard(rt, &heard, 0, (0, true));
+    remove(rt, host, folder);
 }
 
 #[test]

@@ -81,6 +81,11 @@ fn said_of_take<'a>(
 
 #[test]
 fn signs_of_files_of_different_ages(rt: HostRuntime) {
+    check_signs(&rt, &rt);
+}
+
+/// Each outcome has its sign.
+fn check_signs(rt: &(impl AllocGlobal + Abort), host: &HostRuntime) {
     let illegal = Outcome::Took(TakeOutcome::Illegal(EntryFault::WrongPhase));
     for (party, outcome, sign) in [
         (
@@ -105,13 +110,18 @@ fn signs_of_files_of_different_ages(rt: HostRuntime) {
             "at party 3: illegal entry 4",
         ),
     ] {
-        let said = said_of_take(&rt, &rt, party, &outcome);
-        check(&rt, is_sign(said, sign), said);
+        let said = said_of_take(rt, host, party, &outcome);
+        check(rt, is_sign(said, sign), said);
     }
 }
 
 #[test]
 fn outcomes_of_which_nothing_is_said(rt: HostRuntime) {
+    check_nothing_said(&rt, &rt);
+}
+
+/// None of these outcomes is a sign.
+fn check_nothing_said(rt: &(impl AllocGlobal + Abort), host: &HostRuntime) {
     for outcome in [
         Outcome::Took(TakeOutcome::Nothing),
         Outcome::Took(TakeOutcome::WordRefused),
@@ -122,8 +132,8 @@ fn outcomes_of_which_nothing_is_said(rt: HostRuntime) {
         Outcome::NoDatagram,
         Outcome::LinkFault,
     ] {
-        let said = said_of_take(&rt, &rt, 0, &outcome);
-        check(&rt, said.is_empty(), said);
+        let said = said_of_take(rt, host, 0, &outcome);
+        check(rt, said.is_empty(), said);
     }
 }
 
@@ -132,29 +142,39 @@ fn restart<O: Observer>(operator: &mut O, party: u8, held: Number) {
     operator.happened(&Event::Restart { party }, &Outcome::Restarted, Some(held));
 }
 
-/// What is said when the referee begins with so many entries, and the seats with so many.
+/// The referee begins with so many entries, and the seats with so many.
+fn start<O: Observer>(operator: &mut O, (referee, x, o): (Number, Number, Number)) {
+    restart(operator, 0, referee);
+    restart(operator, 1, x);
+    restart(operator, 2, o);
+}
+
+/// What is said at such a start.
 fn said_at_start<'a>(
     rt: &(impl AllocGlobal + Abort),
     host: &'a HostRuntime,
-    (referee, x, o): (Number, Number, Number),
+    held: (Number, Number, Number),
 ) -> &'a str {
     let told = operator_over(rt, host, "");
-    restart(told.operator, 0, referee);
-    restart(told.operator, 1, x);
-    restart(told.operator, 2, o);
+    start(told.operator, held);
     told.heard.said()
 }
 
 #[test]
 fn seats_that_begin_with_more(rt: HostRuntime) {
+    check_seats(&rt, &rt);
+}
+
+/// A seat that has more entries than the referee is a sign.
+fn check_seats(rt: &(impl AllocGlobal + Abort), host: &HostRuntime) {
     for (held, sign) in [
         ((4, 5, 6), "party 1 has 5 entries saved, the referee 4"),
         ((1, 0, 2), "party 2 has 2 entries saved, the referee 1"),
     ] {
-        let said = said_at_start(&rt, &rt, held);
-        check(&rt, is_sign(said, sign), said);
+        let said = said_at_start(rt, host, held);
+        check(rt, is_sign(said, sign), said);
     }
-    assert!(rt; said_at_start(&rt, &rt, (4, 4, 0)).is_empty());
+    assert!(rt; said_at_start(rt, host, (4, 4, 0)).is_empty());
 }
 
 /// A save of a party has succeeded.
@@ -181,7 +201,12 @@ fn save_and_fail<O: Observer>(operator: &mut O) {
 
 #[test]
 fn saves_that_never_succeeded(rt: HostRuntime) {
-    let told = operator_over(&rt, &rt, "");
+    check_saves(&rt, &rt);
+}
+
+/// They are said in the end.
+fn check_saves(rt: &(impl AllocGlobal + Abort), host: &HostRuntime) {
+    let told = operator_over(rt, host, "");
     told.operator.end();
     assert!(rt; told.heard.said().is_empty());
     save_and_fail(told.operator);
@@ -211,21 +236,26 @@ fn is_missing(said: &str, folder: &str) -> bool {
 /// A device's reason comes before what that came to, and once while the device stays out of order.
 #[test]
 fn failures_of_devices(rt: HostRuntime) {
-    let folder = lasting_folder(&rt, &rt, "removed");
-    fs::remove_dir(&rt, folder).expect(&rt, "an empty folder");
-    let told = operator_over(&rt, &rt, folder);
-    let keeper = FileKeeper::new(&rt, folder, 1, told.failures);
-    let keeper = lasting(&rt, keeper.expect(&rt, "the files of X"));
+    check_failures(&rt, &rt);
+}
+
+/// What is said of files in a folder that is removed.
+fn check_failures(rt: &(impl AllocGlobal + Abort), host: &HostRuntime) {
+    let folder = lasting_folder(rt, host, "removed");
+    fs::remove_dir(host, folder).expect(rt, "an empty folder");
+    let told = operator_over(rt, host, folder);
+    let keeper = FileKeeper::new(host, folder, 1, told.failures);
+    let keeper = lasting(rt, keeper.expect(rt, "the files of X"));
     for _ in 0..2 {
         assert!(rt; fails_to_save(keeper, told.operator));
     }
     let said = told.heard.said();
-    check(&rt, is_missing(said, folder), said);
+    check(rt, is_missing(said, folder), said);
     assert!(rt; keeper.write(Slot::Zero, b"text") == Err(DeviceFault::Failed));
     told.operator.end();
     let said = told.heard.said();
     let is_so = said == "bg_relay: no save of party 1 succeeded\n";
-    check(&rt, is_so, said);
+    check(rt, is_so, said);
 }
 
 /// What is said while so many rounds are played over the folder.
@@ -266,19 +296,24 @@ fn write(rt: &impl Abort, host: &HostRuntime, path: &str, bytes: &[u8]) {
 
 #[test]
 fn the_referee_of_an_older_day(rt: HostRuntime) {
-    let folder = lasting_folder(&rt, &rt, "ages");
+    check_older_referee(&rt, &rt);
+}
+
+/// What is said where the referee's files are older than the others.
+fn check_older_referee(rt: &(impl AllocGlobal + Abort), host: &HostRuntime) {
+    let folder = lasting_folder(rt, host, "ages");
     let (zero, one) = (
-        path_in(&rt, folder, "party-0.0"),
-        path_in(&rt, folder, "party-0.1"),
+        path_in(rt, folder, "party-0.0"),
+        path_in(rt, folder, "party-0.1"),
     );
-    assert!(rt; said_while_played(&rt, &rt, folder, 10).is_empty());
-    let older = (bytes_of(&rt, &rt, zero), bytes_of(&rt, &rt, one));
-    assert!(rt; said_while_played(&rt, &rt, folder, 60).is_empty());
-    write(&rt, &rt, zero, older.0);
-    write(&rt, &rt, one, older.1);
-    let said = said_while_played(&rt, &rt, folder, 60);
+    assert!(rt; said_while_played(rt, host, folder, 10).is_empty());
+    let older = (bytes_of(rt, host, zero), bytes_of(rt, host, one));
+    assert!(rt; said_while_played(rt, host, folder, 60).is_empty());
+    write(rt, host, zero, older.0);
+    write(rt, host, one, older.1);
+    let said = said_while_played(rt, host, folder, 60);
     let sign = said.strip_prefix(AGES).unwrap_or_default();
     let is_so = sign.starts_with("party 1 has ") && said.lines().count() == 1;
-    check(&rt, is_so, said);
-    fs::remove_dir_all(&rt, folder).expect(&rt, "the folder is removed");
+    check(rt, is_so, said);
+    fs::remove_dir_all(host, folder).expect(rt, "the folder is removed");
 }

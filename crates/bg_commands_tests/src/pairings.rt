@@ -40,17 +40,22 @@ fn pairing_of<'a>(rt: &(impl AllocGlobal + Abort), names: &Names) -> &'a str {
 /// What a player is called, and both, with and without names.
 #[test]
 fn players_are_called(rt: HostRuntime) {
+    check_called(&rt);
+}
+
+/// Each row has the names of X and of O, and what they are called.
+fn check_called(rt: &(impl AllocGlobal + Abort)) {
     for (x, o, wanted, wanted_of_both) in [
         ("", "", "X, O", ""),
         ("Anna", "", "Anna (X), O", "Anna against O"),
         ("", "Otto", "X, Otto (O)", "X against Otto"),
         ("Anna", "Otto", "Anna (X), Otto (O)", "Anna against Otto"),
     ] {
-        let names = names_of(&rt, x, o);
-        let called = called_of(&rt, &names);
-        check(&rt, called == wanted, called);
-        let pairing = pairing_of(&rt, &names);
-        check(&rt, pairing == wanted_of_both, pairing);
+        let names = names_of(rt, x, o);
+        let called = called_of(rt, &names);
+        check(rt, called == wanted, called);
+        let pairing = pairing_of(rt, &names);
+        check(rt, pairing == wanted_of_both, pairing);
     }
 }
 
@@ -68,6 +73,11 @@ fn title<'a>(
 /// The title that is given counts, and then the names of both players.
 #[test]
 fn titles_of_pages(rt: HostRuntime) {
+    check_titles(&rt, &rt);
+}
+
+/// Each row has the title that is given, the names of X and of O, and the title.
+fn check_titles(rt: &(impl AllocGlobal + Abort), host: &HostRuntime) {
     for (given, x, o, wanted) in [
         (Some("T"), "Anna", "Otto", "T"),
         (Some(""), "Anna", "Otto", ""),
@@ -76,7 +86,7 @@ fn titles_of_pages(rt: HostRuntime) {
         (None, "", "Otto", "Backgammon match"),
         (None, "", "", "Backgammon match"),
     ] {
-        let title = title(&rt, &rt, given, x, o);
-        check(&rt, title == wanted, title);
+        let title = title(rt, host, given, x, o);
+        check(rt, title == wanted, title);
     }
 }

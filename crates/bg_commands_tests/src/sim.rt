@@ -36,11 +36,16 @@ fn text_of<'a>(rt: &(impl AllocGlobal + Abort), seed: u64, steps: u32) -> &'a [u
 /// more, which tell more.
 #[test]
 fn command_prints_the_text_after_thousands_of_events(rt: HostRuntime) {
+    check_printed(&rt, &rt);
+}
+
+/// Each row has a seed and how many events there are.
+fn check_printed(rt: &(impl AllocGlobal + Abort), host: &HostRuntime) {
     for (seed, steps) in [(34, 999), (4, 1000), (127, 1999), (127, 2000), (3, 2500)] {
-        let text = text_of(&rt, seed, steps);
-        let further = text_of(&rt, seed, steps + 1);
-        let is_so = printed(&rt, seed, steps) == Some(text)
-            && printed(&rt, seed, steps + 1) == Some(further);
+        let text = text_of(rt, seed, steps);
+        let further = text_of(rt, seed, steps + 1);
+        let is_so = printed(host, seed, steps) == Some(text)
+            && printed(host, seed, steps + 1) == Some(further);
         assert!(rt; is_so && text != further, "{seed} {steps}");
     }
 }
