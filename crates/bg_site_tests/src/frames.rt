@@ -1,6 +1,6 @@
 //! What is sent to whoever watches a match.
 
-use crate::keepers::{Shelf, ShelfKeeper, lasting_shelf};
+use crate::keepers::{ShelfKeeper, lasting_shelf};
 use crate::lasting::lasting;
 use crate::requests::{OneShelf, action, answer_to, lasting_site_over, order};
 use bg_site::{Peer, Site};
