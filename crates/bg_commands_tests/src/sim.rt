@@ -2,7 +2,7 @@
 use crate::kept_output::KeptOutput;
 use bg_auto::sim_text;
 use bg_console::Progress;
-use bg_match::Rules;
+use bg_match::{Rules, Terms};
 use bg_match_commands::sim;
 use bg_options::SimOptions;
 use std::process::Abort;
@@ -13,8 +13,10 @@ fn printed<'a>(host: &HostRuntime, seed: u64, steps: u32) -> Option<&'a [u8]> {
     let progress = Progress::start(&system, false);
     let options = SimOptions {
         seed,
-        length: 3,
-        rules: Rules::One,
+        terms: Terms {
+            length: 3,
+            rules: Rules::One,
+        },
         watchers: 2,
         steps,
     };

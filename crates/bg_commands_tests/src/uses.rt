@@ -6,7 +6,7 @@ use bg_board::{Die, Player};
 use bg_command_parts::{Asked, FailureReporter, OwnSaves, stopped};
 use bg_console::{Progress, Telling, check_folder};
 use bg_file_commands::show;
-use bg_match::{Entry, Record, Rules};
+use bg_match::{Entry, Record, Rules, Terms};
 use bg_match_commands::sim;
 use bg_options::{Request, SeatOptions, ShowOptions, SimOptions, command_line};
 use bg_picture::Numbering;
@@ -107,8 +107,10 @@ fn no_match_is_simulated(rt: HostRuntime) -> Result<(), Fail> {
     // A match of no length is none.
     let no_match = SimOptions {
         seed: 7,
-        length: 0,
-        rules: Rules::One,
+        terms: Terms {
+            length: 0,
+            rules: Rules::One,
+        },
         watchers: 0,
         steps: 10,
     };

@@ -7,8 +7,10 @@
 //! // A match of no length is none.
 //! let no_match = SimOptions {
 //!     seed: 7,
-//!     length: 0,
-//!     rules: Rules::One,
+//!     terms: Terms {
+//!         length: 0,
+//!         rules: Rules::One,
+//!     },
 //!     watchers: 0,
 //!     steps: 10,
 //! };

@@ -3,9 +3,10 @@
 use bg_auto::LoopFault;
 use bg_command_parts::{Asked, Operator, OwnSaves, stopped};
 use bg_console::{
-    Progress, allocated, check_folder, failed, failed_barely, lock_of, no_memory, tell_if_open,
-    unwritten,
+    Progress, allocated, check_folder, failed, failed_barely, lock_of, no_memory, path_in,
+    tell_if_open, unwritten,
 };
+use bg_match::Terms;
 use bg_options::LoopOptions;
 use bg_processes::{Failures, Printable, play_loop};
 use bg_reports::Ending;
@@ -21,8 +22,7 @@ pub fn run(
 ) -> Result<Ending, Ending> {
     let LoopOptions {
         seed,
-        length,
-        rules,
+        terms: Terms { length, rules },
         rounds,
         folder,
     } = options;
@@ -59,7 +59,7 @@ pub fn run(
 
 /// Refuses the folder of the referee of a match between processes, whose saves would be lost.
 fn check_no_match(rt: &HostRuntime, folder: &str) -> Result<(), Ending> {
-    let path = allocated(rt, format!(in rt.alloc(); "{folder}/match"))?;
+    let path = allocated(rt, path_in(rt.alloc(), folder, "match"))?;
     if fs::metadata(rt, path.as_str()).is_err() {
         return Ok(());
     }

@@ -2,7 +2,7 @@
 
 use bg_auto::{Observer, play_sim};
 use bg_console::{Progress, failed, print_text};
-use bg_match::Number;
+use bg_match::{Number, Terms};
 use bg_options::SimOptions;
 use bg_reports::Ending;
 use bg_world::{Event, Outcome};
@@ -38,8 +38,7 @@ where
 {
     let SimOptions {
         seed,
-        length,
-        rules,
+        terms: Terms { length, rules },
         watchers,
         steps,
     } = options;

@@ -20,7 +20,7 @@ use crate::commands::serve::ServeOptions;
 use crate::commands::show::ShowOptions;
 use crate::commands::sim::SimOptions;
 use crate::commands::watch::WatchOptions;
-use crate::shared::{check_names, has_misplaced_file};
+use crate::shared::{MISPLACED_FILE, check_names};
 use crate::tasks::Task;
 use bg_system::NameFault;
 use clap::ArgMatches;
@@ -104,7 +104,7 @@ impl<'m, 'a> Request<'m, 'a> {
         let task = Task::named(name).ok_or(RequestFault::Missing)?;
         match task.reading() {
             Some(_) if options.contains_id(OUT.name) => check_batch(options)?,
-            Some(command) if has_misplaced_file(options) => {
+            Some(command) if options.contains_id(MISPLACED_FILE.name) => {
                 return Err(RequestFault::MisplacedFile(command));
             }
             _ => {}

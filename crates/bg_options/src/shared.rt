@@ -3,7 +3,7 @@
 use crate::arguments::{Argument, Kind, Need};
 use crate::requests::RequestFault;
 use bg_board::Player;
-use bg_match::{LONGEST_MATCH, Rules, SHORTEST_MATCH};
+use bg_match::{LONGEST_MATCH, Rules, SHORTEST_MATCH, Terms};
 use bg_picture::Numbering;
 use bg_system::{Name, Names};
 use bg_wire::{FIRST_WATCHER, LAST_WATCHER};
@@ -43,11 +43,6 @@ pub(crate) fn byte_in(options: &ArgMatches<'_>, name: &str) -> Option<u8> {
     u8::try_from(number_in(options, name)?).ok()
 }
 
-/// Returns whether a file is named to a command that reads the standard input.
-pub(crate) fn has_misplaced_file(options: &ArgMatches<'_>) -> bool {
-    options.contains_id(MISPLACED_FILE.name)
-}
-
 pub(crate) const SEED: Argument = Argument {
     name: "seed",
     kind: Kind::LongNumber("N"),
@@ -74,6 +69,14 @@ pub(crate) const RULES: Argument = Argument {
     about: "The rules: 1, or 2, by which the referee passes a turn in which nothing can be moved",
 };
 
+/// Returns the length and the rules of the match that the options name.
+pub(crate) fn terms_in(options: &ArgMatches<'_>) -> Option<Terms> {
+    Some(Terms {
+        length: byte_in(options, LENGTH.name)?,
+        rules: rules_in(options)?,
+    })
+}
+
 /// Returns the rules that the options name.
 pub(crate) fn rules_in(options: &ArgMatches<'_>) -> Option<Rules> {
     match number_in(options, "rules")? {
@@ -97,9 +100,9 @@ pub(crate) const PLAYER: Argument = Argument {
     about: "The player; without it, the owner of the key file",
 };
 
-/// Returns the player that the options name, if they name one.
-pub(crate) fn player_in(options: &ArgMatches<'_>) -> Option<Player> {
-    match options.get_str("player")? {
+/// Returns the player that an option gives, if it is there.
+pub(crate) fn player_in(options: &ArgMatches<'_>, name: &str) -> Option<Player> {
+    match options.get_str(name)? {
         "X" | "x" => Some(Player::X),
         "O" | "o" => Some(Player::O),
         _ => None,
@@ -146,11 +149,6 @@ pub(crate) const TITLE: Argument = Argument {
     about: "The title of the page; without it both players' names, or else \"Backgammon match\"",
 };
 
-/// Returns the title of a page, if the options give one.
-pub(crate) fn title_in<'a>(options: &ArgMatches<'a>) -> Option<&'a str> {
-    options.get_str("title")
-}
-
 pub(crate) const NAME_X: Argument = Argument {
     name: "name-x",
     kind: Kind::Text("NAME"),
@@ -175,10 +173,7 @@ pub(crate) fn names_of(x: Option<&str>, o: Option<&str>) -> Names {
 
 /// Returns the name that a text is, which was checked before.
 fn named(text: Option<&str>) -> Option<Name> {
-    match Name::new(text?) {
-        Ok(name) => Some(name),
-        Err(_) => None,
-    }
+    Name::new(text?).ok()
 }
 
 /// The option for the key file of a seat.

@@ -1,6 +1,7 @@
 //! The options and help of the command by which an operator changes the matches of a server.
 
 use crate::arguments::{Argument, Description, Kind, Need};
+use crate::shared::player_in;
 use bg_board::Player;
 use clap::ArgMatches;
 
@@ -68,9 +69,9 @@ fn wanted_in<'a>(options: &ArgMatches<'a>) -> Option<Management<'a>> {
         flag(options, SHOW.name, Management::Show),
         flag(options, DELETE.name, Management::Delete),
         flag(options, FORGET_NAMES.name, Management::ForgetNames),
-        new_link_in(options),
-        backup_in(options),
-        restore_in(options),
+        player_in(options, NEW_LINK.name).map(Management::NewLink),
+        options.get_str(BACKUP.name).map(Management::Backup),
+        options.get_str(RESTORE.name).map(Management::Restore),
     ];
     let mut wanted = None;
     for one in found {
@@ -85,29 +86,7 @@ fn wanted_in<'a>(options: &ArgMatches<'a>) -> Option<Management<'a>> {
 
 /// Returns what a flag asks for, if it is given.
 fn flag<'a>(options: &ArgMatches<'a>, name: &str, asked: Management<'a>) -> Option<Management<'a>> {
-    if options.get_flag(name) {
-        Some(asked)
-    } else {
-        None
-    }
-}
-
-/// Returns which seat is to have a new link, if one is.
-fn new_link_in<'a>(options: &ArgMatches<'a>) -> Option<Management<'a>> {
-    match options.get_str(NEW_LINK.name)? {
-        "X" | "x" => Some(Management::NewLink(Player::X)),
-        _ => Some(Management::NewLink(Player::O)),
-    }
-}
-
-/// Returns where all matches are to be copied, if they are.
-fn backup_in<'a>(options: &ArgMatches<'a>) -> Option<Management<'a>> {
-    Some(Management::Backup(options.get_str(BACKUP.name)?))
-}
-
-/// Returns from where matches are to be copied back, if they are.
-fn restore_in<'a>(options: &ArgMatches<'a>) -> Option<Management<'a>> {
-    Some(Management::Restore(options.get_str(RESTORE.name)?))
+    options.get_flag(name).then_some(asked)
 }
 
 const FOLDER: Argument = Argument {

@@ -2,7 +2,7 @@
 
 use crate::arguments::{Argument, Description, Kind, Need};
 use crate::shared::{
-    FOLDER, LENGTH, NAME_O, NAME_X, RULES, THREE_TERMINALS, byte_in, names_of, number_in, rules_in,
+    FOLDER, LENGTH, NAME_O, NAME_X, RULES, THREE_TERMINALS, names_of, number_in, terms_in,
 };
 use bg_match::Terms;
 use bg_system::{HIGHEST_PORT, LOWEST_PORT, Names};
@@ -41,10 +41,7 @@ pub struct NewOptions<'a> {
 impl<'a> NewOptions<'a> {
     pub(crate) fn read(options: &ArgMatches<'a>) -> Option<NewOptions<'a>> {
         Some(NewOptions {
-            terms: Terms {
-                length: byte_in(options, "length")?,
-                rules: rules_in(options)?,
-            },
+            terms: terms_in(options)?,
             port: u16::try_from(number_in(options, "port")?).ok()?,
             name_x: options.get_str(NAME_X.name),
             name_o: options.get_str(NAME_O.name),

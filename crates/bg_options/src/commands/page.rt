@@ -2,9 +2,7 @@
 
 use crate::arguments::{Argument, Description, Kind, Need};
 use crate::headers::{DATE, EVENT, HeaderOptions, PLACE};
-use crate::shared::{
-    MISPLACED_FILE, NAME_O, NAME_X, NUMBERING, TITLE, names_of, numbering_in, title_in,
-};
+use crate::shared::{MISPLACED_FILE, NAME_O, NAME_X, NUMBERING, TITLE, names_of, numbering_in};
 use bg_picture::Numbering;
 use bg_system::Names;
 use clap::ArgMatches;
@@ -43,7 +41,7 @@ pub struct PageOptions<'a> {
 impl<'a> PageOptions<'a> {
     pub(crate) fn read(options: &ArgMatches<'a>) -> PageOptions<'a> {
         PageOptions {
-            title: title_in(options),
+            title: options.get_str(TITLE.name),
             match_path: options.get_str("match"),
             headers: HeaderOptions::read(options, NAME_X.name, NAME_O.name),
             numbering: numbering_in(options),

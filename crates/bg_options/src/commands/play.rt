@@ -35,7 +35,7 @@ pub struct SeatOptions<'a> {
 impl<'a> SeatOptions<'a> {
     pub(crate) fn read(options: &ArgMatches<'a>) -> Option<SeatOptions<'a>> {
         Some(SeatOptions {
-            player: player_in(options),
+            player: player_in(options, PLAYER.name),
             match_path: options.get_str("match")?,
             folder: options.get_str("dir")?,
         })

@@ -1,8 +1,8 @@
 //! The options and help of the command that plays a match over sockets and files.
 
 use crate::arguments::{Argument, Description, Kind, Need};
-use crate::shared::{LENGTH, RULES, SEED, byte_in, number_in, rules_in, seed_in};
-use bg_match::Rules;
+use crate::shared::{LENGTH, RULES, SEED, number_in, seed_in, terms_in};
+use bg_match::Terms;
 use clap::ArgMatches;
 
 /// The help on `loop`.
@@ -26,9 +26,7 @@ const MOST_ROUNDS: u32 = 1_000_000;
 pub struct LoopOptions<'a> {
     /// The seed of the random words, and the number of the match.
     pub seed: u64,
-    /// The length in points, from 1 to 99.
-    pub length: u8,
-    pub rules: Rules,
+    pub terms: Terms,
     /// Number of rounds, at most 1000000.
     pub rounds: u32,
     pub folder: &'a str,
@@ -38,8 +36,7 @@ impl<'a> LoopOptions<'a> {
     pub(crate) fn read(options: &ArgMatches<'a>) -> Option<LoopOptions<'a>> {
         Some(LoopOptions {
             seed: seed_in(options, "seed")?,
-            length: byte_in(options, "length")?,
-            rules: rules_in(options)?,
+            terms: terms_in(options)?,
             rounds: number_in(options, "rounds")?,
             folder: options.get_str("dir")?,
         })

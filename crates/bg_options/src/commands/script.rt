@@ -1,7 +1,7 @@
 //! The options and help of the command that plays a script.
 
 use crate::arguments::Description;
-use crate::shared::{LENGTH, MISPLACED_FILE, RULES, WATCHERS, byte_in, rules_in};
+use crate::shared::{LENGTH, MISPLACED_FILE, RULES, WATCHERS, byte_in, terms_in};
 use bg_match::Terms;
 use clap::ArgMatches;
 
@@ -30,10 +30,7 @@ pub struct ScriptOptions {
 impl ScriptOptions {
     pub(crate) fn read(options: &ArgMatches<'_>) -> Option<ScriptOptions> {
         Some(ScriptOptions {
-            terms: Terms {
-                length: byte_in(options, "length")?,
-                rules: rules_in(options)?,
-            },
+            terms: terms_in(options)?,
             watchers: byte_in(options, "watchers")?,
         })
     }

@@ -1,8 +1,8 @@
 //! The options and help of the command that plays an automatic match in memory.
 
 use crate::arguments::{Argument, Description, Kind, Need};
-use crate::shared::{LENGTH, RULES, SEED, WATCHERS, byte_in, number_in, rules_in, seed_in};
-use bg_match::Rules;
+use crate::shared::{LENGTH, RULES, SEED, WATCHERS, byte_in, number_in, seed_in, terms_in};
+use bg_match::Terms;
 use clap::ArgMatches;
 
 /// The help on `sim`.
@@ -25,9 +25,7 @@ const MOST_STEPS: u32 = 1_000_000;
 pub struct SimOptions {
     /// The seed of the random words, and the number of the match.
     pub seed: u64,
-    /// The length in points, from 1 to 99.
-    pub length: u8,
-    pub rules: Rules,
+    pub terms: Terms,
     /// Number of watchers, at most 253.
     pub watchers: u8,
     /// Number of events, at most 1000000.
@@ -38,8 +36,7 @@ impl SimOptions {
     pub(crate) fn read(options: &ArgMatches<'_>) -> Option<SimOptions> {
         Some(SimOptions {
             seed: seed_in(options, "seed")?,
-            length: byte_in(options, "length")?,
-            rules: rules_in(options)?,
+            terms: terms_in(options)?,
             watchers: byte_in(options, "watchers")?,
             steps: number_in(options, "steps")?,
         })

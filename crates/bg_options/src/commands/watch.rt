@@ -1,7 +1,7 @@
 //! The options and help of the command that watches a match.
 
 use crate::arguments::{Argument, Description, Kind, Need};
-use crate::shared::{NUMBERING, QUIET_LOG, THREE_TERMINALS, TITLE, numbering_in, title_in};
+use crate::shared::{NUMBERING, QUIET_LOG, THREE_TERMINALS, TITLE, numbering_in};
 use bg_picture::Numbering;
 use clap::ArgMatches;
 
@@ -48,7 +48,7 @@ impl<'a> WatchOptions<'a> {
             board: options.get_str("board"),
             transcript: options.get_str("transcript"),
             page: options.get_str("page"),
-            title: title_in(options),
+            title: options.get_str(TITLE.name),
             numbering: numbering_in(options),
             goes_on: options.get_flag("go-on"),
             is_plain: options.get_flag("plain"),

@@ -32,13 +32,19 @@ fn is_script(script: &ScriptOptions) -> bool {
 }
 
 fn is_sim(sim: &SimOptions) -> bool {
-    (sim.seed, sim.length, sim.rules) == (u64::MAX, 3, Rules::One)
-        && (sim.watchers, sim.steps) == (2, 9)
+    let terms = Terms {
+        length: 3,
+        rules: Rules::One,
+    };
+    (sim.seed, sim.terms) == (u64::MAX, terms) && (sim.watchers, sim.steps) == (2, 9)
 }
 
 fn is_loop(played: &LoopOptions<'_>) -> bool {
-    (played.seed, played.length, played.rules) == (0, 1, Rules::Two)
-        && (played.rounds, played.folder) == (1_000_000, "d")
+    let terms = Terms {
+        length: 1,
+        rules: Rules::Two,
+    };
+    (played.seed, played.terms) == (0, terms) && (played.rounds, played.folder) == (1_000_000, "d")
 }
 
 fn is_new(row: usize, new: &NewOptions<'_>) -> bool {
