@@ -29,7 +29,7 @@ pub use failure_reporters::{FailureReporter, is_out_of_step};
 pub use logbooks::Logbook;
 pub use operators::Operator;
 pub use others_saves::check_seat_folder;
-pub use own_saves::{Asked, OwnSaves, stopped};
+pub use own_saves::{Asked, OwnSaves, begun, stopped};
 pub use results::{GameResult, MatchResult, Results};
 pub use silence_reporters::{Audience, SilenceReporter};
 pub use silences::Silence;

@@ -1,8 +1,8 @@
 //! The messages on a folder that has saves of the other player.
 
 use bg_board::Player;
-use bg_console::{wrong, wrong_at};
-use bg_processes::{Printable, SlotName};
+use bg_console::{path_in, slot_path, wrong, wrong_at};
+use bg_processes::Printable;
 use bg_reports::Ending;
 use bg_wire::{REFEREE, SEAT_OF_O, SEAT_OF_X, Slot, party_of};
 use std::fmt::{Display, Formatter, Write};
@@ -50,7 +50,7 @@ pub fn check_seat_folder(rt: &HostRuntime, folder: &str, player: Player) -> Resu
 
 /// Returns whether a folder has a match file, as that of a referee has.
 fn has_match(rt: &HostRuntime, folder: &str) -> bool {
-    let Ok(path) = format!(in rt.alloc(); "{folder}/match") else {
+    let Ok(path) = path_in(rt.alloc(), folder, "match") else {
         return false;
     };
     fs::metadata(rt, path.as_str()).is_ok()
@@ -58,16 +58,12 @@ fn has_match(rt: &HostRuntime, folder: &str) -> bool {
 
 /// Returns whether one of the files of a party in a folder has a byte.
 fn has_saves(rt: &HostRuntime, folder: &str, party: u8) -> bool {
-    [Slot::Zero, Slot::One].iter().any(|slot| has_bytes(
-        rt,
-        folder,
-        SlotName { party, slot: *slot },
-    ))
+    has_bytes(rt, folder, party, Slot::Zero) || has_bytes(rt, folder, party, Slot::One)
 }
 
-/// Returns whether a file in a folder has a byte.
-fn has_bytes(rt: &HostRuntime, folder: &str, name: SlotName) -> bool {
-    let Ok(path) = format!(in rt.alloc(); "{folder}/{name}") else {
+/// Returns whether this file of a party in a folder has a byte.
+fn has_bytes(rt: &HostRuntime, folder: &str, party: u8, slot: Slot) -> bool {
+    let Ok(path) = slot_path(rt.alloc(), folder, party, slot) else {
         return false;
     };
     fs::metadata(rt, path.as_str()).is_ok_and(|found| found.is_file() && found.len() > 0)

@@ -1,9 +1,9 @@
 //! The saves of a party, and the messages if it can't go on because of them.
 
 use crate::others_saves::Owner;
-use bg_console::{failed_barely, no_memory, say};
-use bg_match::Rules;
-use bg_processes::{MatchFile, Printable, SlotName, read_saved};
+use bg_console::{failed_barely, no_memory, say, say_failures, slot_path, wrong};
+use bg_match::{LengthFault, Rules};
+use bg_processes::{Failures, MatchFile, Printable, read_saved};
 use bg_reports::Ending;
 use bg_system::number_of_rules;
 use bg_wire::{REFEREE, Saved, Slot, load};
@@ -21,12 +21,16 @@ struct MatchWords {
 }
 
 impl MatchWords {
-    fn of_save(saved: &Saved) -> MatchWords {
+    fn of(id: u64, length: u8, rules: Rules) -> MatchWords {
         MatchWords {
-            id: saved.log.id(),
-            length: saved.log.length(),
-            rules: number_of_rules(saved.log.rules()),
+            id,
+            length,
+            rules: number_of_rules(rules),
         }
+    }
+
+    fn of_save(saved: &Saved) -> MatchWords {
+        MatchWords::of(saved.log.id(), saved.log.length(), saved.log.rules())
     }
 }
 
@@ -49,16 +53,10 @@ pub enum Asked<'a> {
 impl<'a> Asked<'a> {
     fn words(self) -> MatchWords {
         match self {
-            Asked::File(table) => MatchWords {
-                id: table.id,
-                length: table.terms.length,
-                rules: number_of_rules(table.terms.rules),
-            },
-            Asked::Options(id, length, rules) => MatchWords {
-                id,
-                length,
-                rules: number_of_rules(rules),
-            },
+            Asked::File(table) => {
+                MatchWords::of(table.id, table.terms.length, table.terms.rules)
+            }
+            Asked::Options(id, length, rules) => MatchWords::of(id, length, rules),
         }
     }
 }
@@ -78,6 +76,24 @@ pub struct OwnSaves<'a> {
     pub folder: &'a str,
     pub party: u8,
     pub asked: Asked<'a>,
+}
+
+/// Returns the process of a party with these saves, where it has begun. Reports what failed as it
+/// began, and why it has not begun.
+pub fn begun<P: Drop>(
+    rt: &HostRuntime,
+    failures: &Failures,
+    saves: OwnSaves<'_>,
+    attempt: Result<(P, Outcome), LengthFault>,
+) -> Result<P, Ending> {
+    say_failures(rt, failures, saves.folder);
+    let Ok((process, outcome)) = attempt else {
+        return Err(wrong(rt, LengthFault::LengthOutOfRange));
+    };
+    if outcome != Outcome::Restarted {
+        return Err(stopped(rt, saves, &outcome));
+    }
+    Ok(process)
 }
 
 /// Reports why a party is down for good, in a line of its own, and returns `Failed`. The line
@@ -192,7 +208,6 @@ fn newest_save(rt: &HostRuntime, folder: &str, party: u8) -> Option<Saved> {
 
 /// Reads a party's file in a folder, if it holds a save.
 fn save_in(rt: &HostRuntime, folder: &str, party: u8, slot: Slot) -> Option<Saved> {
-    let name = SlotName { party, slot };
-    let path = format!(in rt.alloc(); "{folder}/{name}").ok()?;
+    let path = slot_path(rt.alloc(), folder, party, slot).ok()?;
     load(rt.alloc(), &read_saved(rt, path.as_str()).ok()?).ok()
 }

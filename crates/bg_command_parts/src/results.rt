@@ -1,6 +1,5 @@
 //! The results of games, as a record grows.
 
-use bg_board::Player;
 use bg_console::Called;
 use bg_match::{Number, Phase, Record, Standing};
 use bg_system::Names;
@@ -26,15 +25,12 @@ impl GameResult {
         let (x, o) = (score.0.saturating_sub(old_x), score.1.saturating_sub(old_o));
         let (winner, points) = match (x, o) {
             (0, 0) => return None,
-            (points, 0) => (Player::X, points),
-            (_, points) => (Player::O, points),
+            (points, 0) => (Called::x(names), points),
+            (_, points) => (Called::o(names), points),
         };
         Some(GameResult {
             game: before.game(),
-            winner: match winner {
-                Player::X => Called::x(names),
-                Player::O => Called::o(names),
-            },
+            winner,
             points,
             score,
             is_last: matches!(after.phase(), Phase::Over(_)),

@@ -1,9 +1,9 @@
 //! The command that runs the referee of a match.
 
-use bg_command_parts::{Asked, FailureReporter, Logbook, OwnSaves, socket_of, stopped};
+use bg_command_parts::{Asked, FailureReporter, Logbook, OwnSaves, begun, socket_of, stopped};
 use bg_console::{
-    Progress, check_folder, check_writable, failed_with, has_key_secret, key_files_of, lock_of,
-    match_of, no_memory, say_failures, tell_if_open, waited, waiting_for, wrong,
+    Progress, allocated, check_folder, check_writable, failed_with, has_key_secret, key_files_of,
+    lock_of, match_of, path_in, tell_if_open, waited, waiting_for, wrong,
 };
 use bg_match::{Number, Record};
 use bg_options::RefereeOptions;
@@ -13,7 +13,6 @@ use bg_processes::{
 };
 use bg_reports::Ending;
 use bg_wire::REFEREE;
-use bg_world::Outcome;
 
 /// The message on what isn't a folder.
 const NO_FOLDER: &str = " is no folder: name the one that `bg_relay new` made";
@@ -87,9 +86,7 @@ fn begun_logbook<'a>(
 
 /// Reads the match file of a folder.
 fn match_in(rt: &HostRuntime, folder: &str) -> Result<NamedMatch, Ending> {
-    let Ok(path) = format!(in rt.alloc(); "{folder}/match") else {
-        return Err(no_memory(rt));
-    };
+    let path = allocated(rt, path_in(rt.alloc(), folder, "match"))?;
     match_of(rt, path.as_str())
 }
 
@@ -108,17 +105,9 @@ fn begin<'a>(
     let keys = keys_of(rt, folder, table)?;
     let link = socket_of(rt, table.port, REFEREE, keys, failures)?;
     let (waiting, ticking) = waiting_for(rt, link.descriptor(), false)?;
-    let Ok(keeper) = FileKeeper::new(rt, folder, REFEREE, failures) else {
-        return Err(no_memory(rt));
-    };
-    let begun = RefereeProcess::begin(rt.alloc(), table.id, table.terms, key, link, keeper);
-    say_failures(rt, failures, folder);
-    let Ok((process, outcome)) = begun else {
-        return Err(wrong(rt, "length out of range"));
-    };
-    if outcome != Outcome::Restarted {
-        return Err(stopped(rt, saves_of(folder, table), &outcome));
-    }
+    let keeper = allocated(rt, FileKeeper::new(rt, folder, REFEREE, failures))?;
+    let attempt = RefereeProcess::begin(rt.alloc(), table.id, table.terms, key, link, keeper);
+    let process = begun(rt, failures, saves_of(folder, table), attempt)?;
     Ok((process, waiting, ticking))
 }
 

@@ -3,11 +3,9 @@
 use crate::seats::{Process, Seat, count_of, saves_of};
 use bg_board::Player;
 use bg_command_parts::{
-    Audience, FailureReporter, SilenceReporter, check_seat_folder, socket_of, stopped,
+    Audience, FailureReporter, SilenceReporter, begun, check_seat_folder, socket_of,
 };
-use bg_console::{
-    check_writable, no_memory, own_folder, say_failures, seat_key_file_of, waiting_for, wrong,
-};
+use bg_console::{allocated, check_writable, own_folder, seat_key_file_of, waiting_for};
 use bg_options::SeatOptions;
 use bg_processes::{
     Failures, FileKeeper, FolderLock, KeyFile, Keyring, Liveness, MatchFile, PartySocket,
@@ -15,7 +13,6 @@ use bg_processes::{
 };
 use bg_reports::Ending;
 use bg_wire::party_of;
-use bg_world::Outcome;
 use std::fs;
 
 impl<'a> Seat<'a> {
@@ -97,16 +94,7 @@ fn begun_process<'a>(
     table: &MatchFile,
     link: PartySocket<'a, HostRuntime>,
 ) -> Result<Process<'a>, Ending> {
-    let Ok(keeper) = FileKeeper::new(rt, folder, party_of(player), failures) else {
-        return Err(no_memory(rt));
-    };
-    let begun = SeatProcess::begin(rt.alloc(), player, table.id, table.terms, link, keeper);
-    say_failures(rt, failures, folder);
-    let Ok((process, outcome)) = begun else {
-        return Err(wrong(rt, "length out of range"));
-    };
-    if outcome != Outcome::Restarted {
-        return Err(stopped(rt, saves_of(folder, player, table), &outcome));
-    }
-    Ok(process)
+    let keeper = allocated(rt, FileKeeper::new(rt, folder, party_of(player), failures))?;
+    let attempt = SeatProcess::begin(rt.alloc(), player, table.id, table.terms, link, keeper);
+    begun(rt, failures, saves_of(folder, player, table), attempt)
 }
