@@ -151,8 +151,8 @@ fn claim(rt: &HostRuntime, seat: &mut Seat<'_>, wanted: &Wanted) -> Result<Optio
         if wanted.is_there(seat.held()) {
             return Ok(None);
         }
-        if entry > seat.held().saturating_add(1) {
-            let next = seat.held().saturating_add(1);
+        let next = seat.held().saturating_add(1);
+        if entry > next {
             say(
                 rt,
                 format_args!("entry {entry} is not the next one, which is {next}"),

@@ -3,7 +3,7 @@
 use crate::seats::Seat;
 use bg_auto::auto_action;
 use bg_command_parts::Audience;
-use bg_console::{Telling, no_memory};
+use bg_console::{Telling, allocated};
 use bg_options::SeatOptions;
 use bg_processes::{Failures, Going};
 use bg_reports::Ending;
@@ -38,12 +38,8 @@ fn play(rt: &HostRuntime, seat: &mut Seat<'_>) -> Result<Ending, Ending> {
         let Some(record) = seat.record() else {
             continue;
         };
-        match auto_action(rt.alloc(), record, seat.player) {
-            Ok(Some(action)) => {
-                seat.choose(action)?;
-            }
-            Ok(None) => {}
-            Err(_) => return Err(no_memory(rt)),
+        if let Some(action) = allocated(rt, auto_action(rt.alloc(), record, seat.player))? {
+            seat.choose(action)?;
         }
     }
     Ok(Ending::Failed)

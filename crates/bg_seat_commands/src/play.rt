@@ -68,7 +68,7 @@ pub fn run(
         listed: 0,
         asks_level: false,
         is_silent: false,
-        unanswered: Unanswered::new(),
+        unanswered: Unanswered::default(),
         opponent: Opponent::new(),
     };
     table.play()
@@ -174,7 +174,7 @@ impl<'a> Table<'a> {
             Wish::More => self.list_turns(self.listed)?,
             Wish::Undo => self.undo()?,
             Wish::Resign => self.resign()?,
-            Wish::Act(action) => self.choose(action)?,
+            Wish::Act(choice) => self.choose(choice.action())?,
             Wish::Move if is_asked && typed_steps(self.rt.alloc(), line).is_err() => {
                 self.ask_level()?;
             }

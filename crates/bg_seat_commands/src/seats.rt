@@ -87,10 +87,7 @@ impl<'a> Seat<'a> {
     fn play(&mut self, tick: bool) -> Result<Going, Ending> {
         let played = self.process.round(tick, &mut self.reporter);
         self.reporter.check_files()?;
-        match played {
-            Ok(going) => Ok(going),
-            Err(outcome) => Err(self.stopped(&outcome)),
-        }
+        self.unless_stopped(played)
     }
 
     /// Notes whether the referee is heard of, and returns whether that has changed.
@@ -105,16 +102,19 @@ impl<'a> Seat<'a> {
     pub(crate) fn save_now(&mut self) -> Result<(), Ending> {
         let saved = self.process.save_now(&mut self.reporter);
         self.reporter.check_files()?;
-        match saved {
-            Ok(_) => Ok(()),
-            Err(outcome) => Err(self.stopped(&outcome)),
-        }
+        self.unless_stopped(saved)?;
+        Ok(())
     }
 
-    /// Reports why the seat can't go on.
-    fn stopped(&self, outcome: &Outcome) -> Ending {
-        let saves = saves_of(self.folder, self.player, &self.table);
-        stopped(self.rt, saves, outcome)
+    /// Returns the result of a call of the process. Reports why the seat can't go on.
+    fn unless_stopped<T>(&self, attempt: Result<T, Outcome>) -> Result<T, Ending> {
+        match attempt {
+            Ok(done) => Ok(done),
+            Err(outcome) => {
+                let saves = saves_of(self.folder, self.player, &self.table);
+                Err(stopped(self.rt, saves, &outcome))
+            }
+        }
     }
 
     /// Looks through the entries that came. Returns the first in the player's name that doesn't
@@ -137,10 +137,8 @@ impl<'a> Seat<'a> {
 
     /// Claims an action, and returns the outcome.
     pub(crate) fn choose(&mut self, action: Action) -> Result<Outcome, Ending> {
-        match self.process.choose(action, &mut self.reporter) {
-            Ok(outcome) => Ok(outcome),
-            Err(outcome) => Err(self.stopped(&outcome)),
-        }
+        let chosen = self.process.choose(action, &mut self.reporter);
+        self.unless_stopped(chosen)
     }
 
     /// Returns the record, or `None` where the seat is down. What others want of the process they

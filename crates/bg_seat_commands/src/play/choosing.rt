@@ -1,7 +1,6 @@
 //! A person's choices at a terminal, and the reasons for refusing them.
 
 use crate::play::Table;
-use bg_console::allocated;
 use bg_match::Action;
 use bg_party::ChooseFault;
 use bg_reports::Ending;
@@ -57,13 +56,12 @@ impl<'a> Table<'a> {
     /// Prints why an action can't be claimed, what the player may do instead, and what was typed of
     /// a turn.
     fn refuse(&self, action: &Action, fault: ChooseFault) -> Result<(), Ending> {
-        let rt = self.rt;
         let (ChooseFault::Illegal(fault), Some(record)) = (fault, self.seat.record()) else {
             return self.prompt();
         };
         let standing = record.standing();
-        let text = refusal_text(rt.alloc(), &standing, self.player, action, fault);
-        self.screen.say_turn(&allocated(rt, text)?)?;
+        let text = refusal_text(self.rt.alloc(), &standing, self.player, action, fault);
+        self.screen.say_turn(text)?;
         self.tell_typed()
     }
 }

@@ -1,8 +1,8 @@
 //! The words on a choice that waits for the referee.
 
 use bg_board::Player;
-use bg_match::{Action, Entry, Level};
-use bg_text::{entry_text, put_text};
+use bg_match::{Action, Entry};
+use bg_text::{entry_text, level_word, put_text};
 use std::alloc::{AllocError, Global};
 
 /// Returns the line that tells a player which choice of theirs waits for the referee, as in
@@ -33,18 +33,9 @@ fn put_action(text: &mut Vec<u8>, player: Player, action: &Action) -> Result<(),
         Action::Drop => put_text(text, "drop"),
         Action::Resign(level) => {
             put_text(text, "resign ")?;
-            put_text(text, name_of(*level))
+            put_text(text, level_word(*level))
         }
         Action::Accept => put_text(text, "accept"),
         Action::Reject => put_text(text, "reject"),
-    }
-}
-
-/// Returns the name of a level.
-fn name_of(level: Level) -> &'static str {
-    match level {
-        Level::Normal => "normal",
-        Level::Gammon => "gammon",
-        Level::Backgammon => "backgammon",
     }
 }

@@ -4,8 +4,7 @@ use crate::play::Table;
 use crate::play::single_dice::in_single_dice;
 use crate::play::slips::slip_text;
 use crate::play::turn_words::{
-    adds_nothing, forced, must_play_more, only_way, so_far, together, turn_beyond, which_of,
-    without_move,
+    adds_nothing, only_way, together, turn_beyond, which_of, with_steps, without_move,
 };
 use bg_board::Board;
 use bg_console::{allocated, no_memory};
@@ -16,15 +15,17 @@ use bg_turns::{Dice, Turn, TurnFault, judge_turn};
 use bg_typed::{TypedFault, fits_marks, read_turn, typed_steps};
 
 /// The message on a line that is none of those that may be typed.
-const NOT_UNDERSTOOD: &str = "that is not understood: `help` lists what may be typed";
+const NOT_UNDERSTOOD: &[u8] = b"that is not understood: `help` lists what may be typed";
 
 /// The faults of a typed movement, in words.
-const TOO_MANY_STEPS: &str = "a turn has four steps at most";
+const TOO_MANY_STEPS: &[u8] = b"a turn has four steps at most";
 
-const WRONG_HITS: &str =
-    "this turn doesn't hit exactly where you marked it with `*`: leave the marks out, or mark all hits";
+const WRONG_HITS: &[u8] =
+    b"this turn doesn't hit exactly where you marked it with `*`: leave the marks out, or mark all hits";
 
 const SEVERAL_TURNS: &[u8] = b"several turns are legal: `legal` lists them";
+
+const NO_SUCH_TURN: &[u8] = b"no legal turn has this movement: `legal` lists those that are";
 
 impl<'a> Table<'a> {
     /// Returns the board and the dice that the player is to move, if there are any.
@@ -53,8 +54,7 @@ impl<'a> Table<'a> {
                 Some(turn) => self.choose(Action::Move(turn)),
                 None => self.screen.say(SEVERAL_TURNS),
             },
-            Err(TypedFault::NotAMovement) => self.tell_slip(line),
-            Err(fault) => self.tell_fault(&fault),
+            Err(fault) => self.refuse_line(line, &fault),
         }
     }
 
@@ -78,8 +78,12 @@ impl<'a> Table<'a> {
         let Some(turn) = self.only_way()? else {
             return Ok(false);
         };
-        let line = allocated(self.rt, forced(self.rt.alloc(), self.player, &turn))?;
-        self.screen.say(&line)?;
+        let behind = if turn.steps().is_empty() {
+            " nothing can be moved"
+        } else {
+            ""
+        };
+        self.say_steps("the only turn is played:", &turn, behind)?;
         self.choose(Action::Move(turn))?;
         Ok(!self.claims_nothing())
     }
@@ -88,18 +92,19 @@ impl<'a> Table<'a> {
     fn refuse_move(&mut self, line: &[u8]) -> Result<(), Ending> {
         match typed_steps(self.rt.alloc(), line) {
             Ok(turn) => self.choose(Action::Move(turn)),
-            Err(TypedFault::NotAMovement) => self.tell_slip(line),
-            Err(fault) => self.tell_fault(&fault),
+            Err(fault) => self.refuse_line(line, &fault),
         }
     }
 
-    /// Prints why a line is no movement: its likely slip, if it has one.
-    fn tell_slip(&self, line: &[u8]) -> Result<(), Ending> {
-        let slip = slip_text(self.rt.alloc(), without_move(line));
-        match allocated(self.rt, slip)? {
-            Some(text) => self.screen.say(&text),
-            None => self.tell_fault(&TypedFault::NotAMovement),
+    /// Prints why a line is not a turn: of one that is no movement its likely slip, if it has one.
+    fn refuse_line(&self, line: &[u8], fault: &TypedFault) -> Result<(), Ending> {
+        if *fault == TypedFault::NotAMovement {
+            let slip = slip_text(self.rt.alloc(), without_move(line));
+            if let Some(text) = allocated(self.rt, slip)? {
+                return self.screen.say(&text);
+            }
         }
+        self.tell_fault(fault)
     }
 
     /// Prints that more must be played than the typed part of a turn, with a turn that begins so.
@@ -109,8 +114,7 @@ impl<'a> Table<'a> {
             Err(fault) => return self.tell_fault(&fault),
         };
         if let Some(turn) = self.beyond(board, dice, &part)? {
-            let line = must_play_more(self.rt.alloc(), self.player, &turn);
-            self.screen.say(&allocated(self.rt, line)?)?;
+            self.say_steps("you must play more:", &turn, " can be played")?;
         }
         self.tell_typed()
     }
@@ -123,9 +127,8 @@ impl<'a> Table<'a> {
         turn: &Turn,
         fault: TurnFault,
     ) -> Result<(), Ending> {
-        let rt = self.rt;
-        let text = turn_refusal_text(rt.alloc(), board, self.player, dice, turn, fault);
-        self.screen.say(&allocated(rt, text)?)?;
+        let text = turn_refusal_text(self.rt.alloc(), board, self.player, dice, turn, fault);
+        self.screen.say_made(text)?;
         self.tell_typed()
     }
 
@@ -193,8 +196,8 @@ impl<'a> Table<'a> {
 
     /// Asks which of two turns is meant.
     fn ask_which(&self, one: &Turn, other: &Turn) -> Result<(), Ending> {
-        let line = which_of(self.rt.alloc(), self.player, one, other);
-        self.screen.say(&allocated(self.rt, line)?)
+        self.screen
+            .say_made(which_of(self.rt.alloc(), self.player, one, other))
     }
 
     /// Prints why what was typed is not a turn.
@@ -203,25 +206,27 @@ impl<'a> Table<'a> {
             TypedFault::NotAMovement => NOT_UNDERSTOOD,
             TypedFault::TooManySteps => TOO_MANY_STEPS,
             TypedFault::WrongHits => WRONG_HITS,
-            TypedFault::SeveralTurns => return self.screen.say(SEVERAL_TURNS),
+            TypedFault::SeveralTurns => SEVERAL_TURNS,
+            TypedFault::NoSuchTurn => NO_SUCH_TURN,
             TypedFault::Ambiguous(one, other) => return self.ask_which(one, other),
-            TypedFault::NoSuchTurn =>
-                "no legal turn has this movement: `legal` lists those that are",
             TypedFault::Memory => return Err(no_memory(self.rt)),
         };
-        self.screen.say(words.as_bytes())
+        self.screen.say(words)
     }
 
     /// Prints what was typed of a turn, if anything was.
     pub(super) fn tell_typed(&self) -> Result<(), Ending> {
-        let rt = self.rt;
-        if self.typed.is_empty() {
-            return Ok(());
+        match typed_steps(self.rt.alloc(), &self.typed) {
+            Ok(turn) if !self.typed.is_empty() => {
+                self.say_steps("so far", &turn, ": type the next step, or `undo`")
+            }
+            _ => Ok(()),
         }
-        let Ok(turn) = typed_steps(rt.alloc(), &self.typed) else {
-            return Ok(());
-        };
-        let line = allocated(rt, so_far(rt.alloc(), self.player, &turn))?;
-        self.screen.say(&line)
+    }
+
+    /// Prints the steps of a turn between these words.
+    fn say_steps(&self, before: &str, turn: &Turn, behind: &str) -> Result<(), Ending> {
+        let line = with_steps(self.rt.alloc(), before, self.player, turn, behind);
+        self.screen.say_made(line)
     }
 }

@@ -1,13 +1,11 @@
 //! The messages on the other player's coming and going.
 
 use crate::play::Table;
-use bg_board::Player;
 use bg_console::allocated;
 use bg_match::Actor;
 use bg_processes::OpponentChange;
 use bg_reports::Ending;
-use bg_text::{letter, put_text};
-use std::alloc::{AllocError, Global};
+use bg_text::letter;
 
 impl<'a> Table<'a> {
     /// Prints whether the other player has come, left or returned, where there is news of that.
@@ -23,8 +21,9 @@ impl<'a> Table<'a> {
         let Some(change) = change else {
             return Ok(false);
         };
-        let line = line_of(self.rt.alloc(), opponent, words_of(change));
-        self.screen.say(&allocated(self.rt, line)?)?;
+        let (letter, words) = (letter(opponent), words_of(change));
+        let line = allocated(self.rt, format!(in self.rt.alloc(); "{letter}{words}"))?;
+        self.screen.say(line.as_bytes())?;
         Ok(true)
     }
 }
@@ -39,12 +38,4 @@ fn words_of(change: OpponentChange) -> &'static str {
         }
         OpponentChange::Returned => " is back",
     }
-}
-
-/// Returns the letter of a player, and words behind it.
-fn line_of(alloc: Global, player: Player, words: &str) -> Result<Vec<u8>, AllocError> {
-    let mut line = Vec::new(alloc);
-    put_text(&mut line, letter(player))?;
-    put_text(&mut line, words)?;
-    Ok(line)
 }

@@ -7,8 +7,7 @@ use bg_console::{
 use bg_match::Number;
 use bg_reports::Ending;
 use bg_table::Drawing;
-use bg_text::{put_number, put_text};
-use std::alloc::{AllocError, Global};
+use std::alloc::AllocError;
 
 /// The columns and the lines of a screen of unknown size.
 const USUAL_COLUMNS: usize = 80;
@@ -55,12 +54,10 @@ impl<'a> Screen<'a> {
         self.print(&text)
     }
 
-    /// Prints lines as [`say`](Self::say) does, or nothing where there is none.
-    pub(crate) fn say_lines(&self, lines: &[u8]) -> Result<(), Ending> {
-        if lines.is_empty() {
-            return Ok(());
-        }
-        self.say(lines)
+    /// Prints lines that were made just now as [`say`](Self::say) does. Reports where there was no
+    /// memory for them.
+    pub(crate) fn say_made(&self, lines: Result<Vec<u8>, AllocError>) -> Result<(), Ending> {
+        self.say(&allocated(self.rt, lines)?)
     }
 
     /// Prints a text with a board as [`say`](Self::say) does, with the rows of the board whole. The
@@ -78,10 +75,11 @@ impl<'a> Screen<'a> {
         self.print(&allocated(self.rt, coloured)?)
     }
 
-    /// Prints the line that says whose turn it is as [`say`](Self::say) does, with the offers bold
-    /// if there are colours.
-    pub(crate) fn say_turn(&self, line: &[u8]) -> Result<(), Ending> {
-        let text = allocated(self.rt, broken(self.rt.alloc(), line, self.columns))?;
+    /// Prints the line that says whose turn it is as [`say_made`](Self::say_made) does, with the
+    /// offers bold if there are colours.
+    pub(crate) fn say_turn(&self, line: Result<Vec<u8>, AllocError>) -> Result<(), Ending> {
+        let line = allocated(self.rt, line)?;
+        let text = allocated(self.rt, broken(self.rt.alloc(), &line, self.columns))?;
         if !self.has_colours {
             return self.print(&text);
         }
@@ -96,21 +94,7 @@ impl<'a> Screen<'a> {
         number: Number,
         behind: &str,
     ) -> Result<(), Ending> {
-        let line = numbered(self.rt.alloc(), before, number, behind);
-        self.say(&allocated(self.rt, line)?)
+        let line = format!(in self.rt.alloc(); "{before}{number}{behind}");
+        self.say(allocated(self.rt, line)?.as_bytes())
     }
-}
-
-/// Returns a number between some words.
-fn numbered(
-    alloc: Global,
-    before: &str,
-    number: Number,
-    behind: &str,
-) -> Result<Vec<u8>, AllocError> {
-    let mut line = Vec::new(alloc);
-    put_text(&mut line, before)?;
-    put_number(&mut line, number.into())?;
-    put_text(&mut line, behind)?;
-    Ok(line)
 }

@@ -110,19 +110,20 @@ impl<'a> Table<'a> {
     /// Prints whose turn it is and what the player may do, with the outcome of each answer to an
     /// offer, or that their choice waits.
     pub(super) fn prompt(&self) -> Result<(), Ending> {
-        let rt = self.rt;
+        let alloc = self.rt.alloc();
         if let Some((_, action)) = self.seat.open_claim() {
-            let text = allocated(rt, kept_text(rt.alloc(), self.player, &action))?;
-            return self.screen.say(&text);
+            return self.screen.say_made(kept_text(alloc, self.player, &action));
         }
         let Some(record) = self.seat.record() else {
             return Ok(());
         };
         let standing = record.standing();
-        let answers = allocated(rt, answers_text(rt.alloc(), &standing, self.player))?;
-        self.screen.say_lines(&answers)?;
-        let text = allocated(rt, prompt_text(rt.alloc(), &standing, self.player))?;
-        self.screen.say_turn(&text)?;
+        let answers = allocated(self.rt, answers_text(alloc, &standing, self.player))?;
+        if !answers.is_empty() {
+            self.screen.say(&answers)?;
+        }
+        self.screen
+            .say_turn(prompt_text(alloc, &standing, self.player))?;
         self.tell_typed()
     }
 

@@ -51,15 +51,11 @@ impl<'a> Table<'a> {
         let at_once = self.screen.lines.saturating_sub(LINES_BELOW).max(1);
         let (shown, is_last) = lines_behind(&text, behind, at_once);
         self.screen.say(shown)?;
-        self.listed = if is_last {
-            0
-        } else {
-            behind.saturating_add(at_once)
-        };
         if is_last {
-            Ok(())
-        } else {
-            self.screen.say(THERE_IS_MORE)
+            self.listed = 0;
+            return Ok(());
         }
+        self.listed = behind.saturating_add(at_once);
+        self.screen.say(THERE_IS_MORE)
     }
 }

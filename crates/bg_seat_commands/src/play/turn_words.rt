@@ -2,7 +2,7 @@
 
 use bg_board::{Board, Player};
 use bg_match::Entry;
-use bg_text::{entry_text, split_player};
+use bg_text::{entry_text, put_text, split_player};
 use bg_turns::{Dice, Turn, judge_turn, legal_turns};
 use std::alloc::{AllocError, Global};
 
@@ -45,17 +45,6 @@ pub(super) fn turn_beyond(
     Ok(None)
 }
 
-/// Returns the line that says which turn is played, as it is the only one.
-pub(super) fn forced(alloc: Global, player: Player, turn: &Turn) -> Result<Vec<u8>, AllocError> {
-    let mut line = Vec::new(alloc);
-    line.extend_from_slice(b"the only turn is played:")?;
-    put_steps(&mut line, player, turn)?;
-    if turn.steps().is_empty() {
-        line.extend_from_slice(b" nothing can be moved")?;
-    }
-    Ok(line)
-}
-
 /// Returns what was typed of a turn, with one more line.
 pub(super) fn together(alloc: Global, typed: &[u8], line: &[u8]) -> Result<Vec<u8>, AllocError> {
     let mut whole = Vec::new(alloc);
@@ -87,25 +76,18 @@ pub(super) fn without_move(line: &[u8]) -> &[u8] {
     }
 }
 
-/// Returns the line that says what was typed of a turn.
-pub(super) fn so_far(alloc: Global, player: Player, turn: &Turn) -> Result<Vec<u8>, AllocError> {
-    let mut line = Vec::new(alloc);
-    line.extend_from_slice(b"so far")?;
-    put_steps(&mut line, player, turn)?;
-    line.extend_from_slice(b": type the next step, or `undo`")?;
-    Ok(line)
-}
-
-/// Returns the line that says that a part of this turn is not enough.
-pub(super) fn must_play_more(
+/// Returns the line with the steps of a turn between these words.
+pub(super) fn with_steps(
     alloc: Global,
+    before: &str,
     player: Player,
     turn: &Turn,
+    behind: &str,
 ) -> Result<Vec<u8>, AllocError> {
     let mut line = Vec::new(alloc);
-    line.extend_from_slice(b"you must play more:")?;
+    put_text(&mut line, before)?;
     put_steps(&mut line, player, turn)?;
-    line.extend_from_slice(b" can be played")?;
+    put_text(&mut line, behind)?;
     Ok(line)
 }
 

@@ -16,7 +16,7 @@ const NO_ANSWER: &[u8] =
     b"the referee is heard, and doesn't answer your choice: whoever runs it finds the reason in its messages, perhaps that its folder is an older copy";
 
 /// The choice that waits for the referee, and how long it does.
-#[derive(Clone, Copy)]
+#[derive(Clone, Copy, Default)]
 pub(super) struct Unanswered {
     /// The number of the entry that is claimed.
     claimed: Option<Number>,
@@ -30,24 +30,13 @@ pub(super) struct Unanswered {
 }
 
 impl Unanswered {
-    /// Creates the state of a player who has chosen nothing yet.
-    pub(super) fn new() -> Unanswered {
-        Unanswered {
-            claimed: None,
-            ticks: 0,
-            heard_ticks: 0,
-            heard: 0,
-            is_told: false,
-        }
-    }
-
     /// Counts a round with a tick, after which this entry is claimed and so many datagrams ever
     /// came from the referee. Returns whether the player is to be told now.
     fn count_tick(&mut self, claimed: Option<Number>, heard: u32, is_silent: bool) -> bool {
         let is_heard = heard != self.heard;
         let is_told = self.is_told && claimed == self.claimed;
         if claimed.is_none() || claimed != self.claimed || is_silent {
-            *self = Unanswered::new();
+            *self = Unanswered::default();
         }
         self.claimed = claimed;
         self.heard = heard;

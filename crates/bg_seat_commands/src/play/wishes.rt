@@ -4,7 +4,7 @@ use bg_match::{Action, Level};
 use std::alloc::{AllocError, Global};
 
 /// The request that a typed line makes.
-#[derive(Drop)]
+#[derive(Clone, Copy)]
 pub(crate) enum Wish {
     /// Nothing: an empty line.
     Nothing,
@@ -19,62 +19,70 @@ pub(crate) enum Wish {
     Quit,
     /// Offering to resign, at a level that is not given.
     Resign,
-    Act(Action),
+    Act(Choice),
     /// Moving: all else, as the library of typed turns reads it.
     Move,
 }
 
-/// A request that is a word of its own.
+/// An action that isn't a turn.
 #[derive(Clone, Copy)]
-enum Word {
-    Nothing,
-    Help,
-    Board,
-    Legal,
-    More,
-    Undo,
-    Quit,
-    Resign,
+pub(crate) enum Choice {
     Roll,
     Double,
     Take,
     Drop,
+    Resign(Level),
     Accept,
     Reject,
 }
 
+impl Choice {
+    /// Returns the action.
+    pub(crate) fn action(self) -> Action {
+        match self {
+            Choice::Roll => Action::Roll,
+            Choice::Double => Action::Double,
+            Choice::Take => Action::Take,
+            Choice::Drop => Action::Drop,
+            Choice::Resign(level) => Action::Resign(level),
+            Choice::Accept => Action::Accept,
+            Choice::Reject => Action::Reject,
+        }
+    }
+}
+
 /// The words that may be typed, each with its request.
-const WORDS: [(&[u8], Word); 30] = [
-    (b"", Word::Nothing),
-    (b"?", Word::Help),
-    (b"h", Word::Help),
-    (b"help", Word::Help),
-    (b"board", Word::Board),
-    (b"l", Word::Legal),
-    (b"legal", Word::Legal),
-    (b"more", Word::More),
-    (b"u", Word::Undo),
-    (b"undo", Word::Undo),
-    (b"q", Word::Quit),
-    (b"quit", Word::Quit),
-    (b"exit", Word::Quit),
-    (b"resign", Word::Resign),
-    (b"r", Word::Roll),
-    (b"roll", Word::Roll),
-    (b"d", Word::Double),
-    (b"double", Word::Double),
-    (b"t", Word::Take),
-    (b"take", Word::Take),
-    (b"p", Word::Drop),
-    (b"pass", Word::Drop),
-    (b"drop", Word::Drop),
-    (b"a", Word::Accept),
-    (b"y", Word::Accept),
-    (b"yes", Word::Accept),
-    (b"accept", Word::Accept),
-    (b"n", Word::Reject),
-    (b"no", Word::Reject),
-    (b"reject", Word::Reject),
+const WORDS: [(&[u8], Wish); 30] = [
+    (b"", Wish::Nothing),
+    (b"?", Wish::Help),
+    (b"h", Wish::Help),
+    (b"help", Wish::Help),
+    (b"board", Wish::Board),
+    (b"l", Wish::Legal),
+    (b"legal", Wish::Legal),
+    (b"more", Wish::More),
+    (b"u", Wish::Undo),
+    (b"undo", Wish::Undo),
+    (b"q", Wish::Quit),
+    (b"quit", Wish::Quit),
+    (b"exit", Wish::Quit),
+    (b"resign", Wish::Resign),
+    (b"r", Wish::Act(Choice::Roll)),
+    (b"roll", Wish::Act(Choice::Roll)),
+    (b"d", Wish::Act(Choice::Double)),
+    (b"double", Wish::Act(Choice::Double)),
+    (b"t", Wish::Act(Choice::Take)),
+    (b"take", Wish::Act(Choice::Take)),
+    (b"p", Wish::Act(Choice::Drop)),
+    (b"pass", Wish::Act(Choice::Drop)),
+    (b"drop", Wish::Act(Choice::Drop)),
+    (b"a", Wish::Act(Choice::Accept)),
+    (b"y", Wish::Act(Choice::Accept)),
+    (b"yes", Wish::Act(Choice::Accept)),
+    (b"accept", Wish::Act(Choice::Accept)),
+    (b"n", Wish::Act(Choice::Reject)),
+    (b"no", Wish::Act(Choice::Reject)),
+    (b"reject", Wish::Act(Choice::Reject)),
 ];
 
 /// The names of the levels at which a player may resign.
@@ -100,15 +108,12 @@ const MAY_BE_NO: &[u8] = b"n";
 pub(crate) fn wish_of(alloc: Global, line: &[u8], asks_level: bool) -> Result<Wish, AllocError> {
     let words = plain(alloc, line)?;
     if let Some(level) = level_in(&words, asks_level) {
-        return Ok(Wish::Act(Action::Resign(level)));
+        return Ok(Wish::Act(Choice::Resign(level)));
     }
     if asks_level && words.as_slice() == MAY_BE_NO {
         return Ok(Wish::Resign);
     }
-    Ok(match meaning_of(&WORDS, &words) {
-        Some(word) => word.wish(),
-        None => Wish::Move,
-    })
+    Ok(meaning_of(&WORDS, &words).unwrap_or(Wish::Move))
 }
 
 /// Returns the level at which some words resign. Where the player was asked for it, its name or
@@ -129,28 +134,6 @@ fn meaning_of<T: Copy>(table: &[(&[u8], T)], word: &[u8]) -> Option<T> {
         }
     }
     None
-}
-
-impl Word {
-    /// Returns the request that the word makes.
-    fn wish(self) -> Wish {
-        match self {
-            Word::Nothing => Wish::Nothing,
-            Word::Help => Wish::Help,
-            Word::Board => Wish::Board,
-            Word::Legal => Wish::Legal,
-            Word::More => Wish::More,
-            Word::Undo => Wish::Undo,
-            Word::Quit => Wish::Quit,
-            Word::Resign => Wish::Resign,
-            Word::Roll => Wish::Act(Action::Roll),
-            Word::Double => Wish::Act(Action::Double),
-            Word::Take => Wish::Act(Action::Take),
-            Word::Drop => Wish::Act(Action::Drop),
-            Word::Accept => Wish::Act(Action::Accept),
-            Word::Reject => Wish::Act(Action::Reject),
-        }
-    }
 }
 
 /// Returns the words of a line in small letters, separated by single blanks.
