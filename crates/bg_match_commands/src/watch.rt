@@ -31,38 +31,26 @@ pub fn run(
     terminal: Option<Terminal>,
     is_watched: bool,
 ) -> Result<Ending, Ending> {
-    let WatchOptions {
-        match_path,
-        board,
-        transcript,
-        page,
-        title,
-        numbering,
-        goes_on,
-        is_plain,
-        is_quiet,
-    } = options;
-    check_outputs(rt, board, transcript, page)?;
-    let handed = key_file_of(rt, match_path, FIRST_WATCHER)?;
+    check_outputs(rt, options.board, options.transcript, options.page)?;
+    let path = options.match_path;
+    let handed = key_file_of(rt, path, FIRST_WATCHER)?;
     let file = handed.named_match();
-    let title = title_of(rt, title, &file.names)?;
+    let title = title_of(rt, options.title, &file.names)?;
     let names = file.names;
     let mut published = Published::new(Outputs {
-        board,
-        transcript,
-        page,
+        board: options.board,
+        transcript: options.transcript,
+        page: options.page,
         words: page_words(title.as_str(), &names),
-        numbering,
-        goes_on,
+        numbering: options.numbering,
+        goes_on: options.goes_on,
     });
     let failures = Failures::new();
     let (table, key) = (&file.table, &handed.key);
-    let (party, mut process, mut waiting, mut ticking) = begin(
-        rt, match_path, table, key, &failures,
-    )?;
-    let drawn_on = terminal.filter(|terminal| terminal.is_drawn_on && !is_plain);
+    let (party, mut process, mut waiting, mut ticking) = begin(rt, path, table, key, &failures)?;
+    let drawn_on = terminal.filter(|terminal| terminal.is_drawn_on && !options.is_plain);
     // Log lines would tear the board, where both are at one terminal.
-    let is_quiet = is_quiet || (is_watched && drawn_on.is_some());
+    let is_quiet = options.is_quiet || (is_watched && drawn_on.is_some());
     let mut logbook = Logbook::begin(rt, is_quiet, party, &file, process.held());
     let audience = audience_of(is_quiet, is_watched, drawn_on.is_some());
     let mut silence = SilenceReporter::new(rt, file.table, audience);
@@ -91,8 +79,7 @@ pub fn run(
         is_watched,
     );
     logbook.end(ended.is_ok());
-    ended?;
-    Ok(Ending::Served)
+    ended
 }
 
 /// Returns the audience of the standard error, by whether only errors are to be reported, whether a
@@ -155,7 +142,7 @@ fn watch(
     silence: &mut SilenceReporter<'_>,
     published: &mut Published<'_>,
     is_watched: bool,
-) -> Result<(), Ending> {
+) -> Result<Ending, Ending> {
     let mut liveness = Liveness::new();
     for _ in 0..u64::MAX {
         let empty_reads = process.link().empty_reads();
@@ -170,8 +157,9 @@ fn watch(
         published.after_round(rt, process.held(), news, tick, is_heard)?;
         showing.note_files(published.is_failing());
         if going == Going::Over {
-            return published.write(rt, process.held(), is_heard);
+            published.write(rt, process.held(), is_heard)?;
+            break;
         }
     }
-    Ok(())
+    Ok(Ending::Served)
 }

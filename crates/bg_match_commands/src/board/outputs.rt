@@ -13,8 +13,5 @@ pub(crate) fn put(rt: &HostRuntime, path: &str, text: &[u8]) -> Result<(), Endin
             return Ok(());
         }
     }
-    match publish(rt, path, text) {
-        Ok(()) => Ok(()),
-        Err(error) => Err(failed_at(rt, path, " could not be written", &error)),
-    }
+    publish(rt, path, text).map_err(|error| failed_at(rt, path, " could not be written", &error))
 }

@@ -92,9 +92,8 @@ impl<'a, 'm, 's> Search<'a, 'm, 's> {
 
     /// Searches for matches in a folder and below it.
     fn search_in(&mut self, folder: &str, matches: &mut Vec<BoardMatch<'a>>) -> Result<(), Ending> {
-        let found = match matches_below(self.rt, folder) {
-            Ok(found) => found,
-            Err(_) => return Err(no_memory(self.rt)),
+        let Ok(found) = matches_below(self.rt, folder) else {
+            return Err(no_memory(self.rt));
         };
         if found.is_empty() && self.reports.is_news(folder)? {
             say_of(self.rt, folder, NO_MATCH);
