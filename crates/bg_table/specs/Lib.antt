@@ -1,5 +1,6 @@
 pub mod Pips
 pub mod SeenPlayers
+pub mod BoardLines
 pub mod SeenBoards
 pub mod DrawnBoards
 pub mod Headings

@@ -1,30 +1,12 @@
 -- The board as a player sees it: the reader, in whose numbers all points are.
-use Rattle.std.specs.Prelude.{ℕ, ◌-◌, List, [], ◌∷◌, ◌++◌, nat_lt, codes, if◌then◌else◌}
-use Rattle.std.specs.List.{flat_map}
+use Rattle.std.specs.Prelude.{ℕ, List, [], ◌∷◌, ◌++◌, codes}
 use Rattle.std.specs.Fmt.{decimal}
 use Rattle.bg_board.specs.Position.{Position, count, opponent}
 use Rattle.bg_board.specs.declared.players.Player.{Player}
-use Rattle.bg_text.specs.Boards.BoardText.{in_four, line_text, numbers_line}
+use Rattle.bg_text.specs.Boards.BoardText.{line_text}
 use Rattle.bg_text.specs.Entries.EntryText.{letter}
-
--- what stands on a point of the reader: the letter of who holds it and how many checkers he has
--- there, or a dot
-abbrev pub seen_cell : Position → Player → ℕ → List ℕ
-seen_cell b reader point =
-    if nat_lt 0 (count b reader point) then letter reader ++ decimal (count b reader point)
-    else if nat_lt 0 (count b (opponent reader) (25 - point))
-    then letter (opponent reader) ++ decimal (count b (opponent reader) (25 - point))
-    else codes "."
-
-abbrev pub seen_cells : Position → Player → List ℕ → List ℕ
-seen_cells b reader points = flat_map (λ point. in_four (seen_cell b reader point)) points
-
--- what stands on some points left of the bar, and on others right of it
-unfoldable pub seen_line : Position → Player → List ℕ → List ℕ → List ℕ
-seen_line b reader left right = seen_cells b reader left ++ codes "  |" ++ seen_cells b reader right
-
-unfoldable pub numbers_words : List ℕ → List ℕ → List ℕ
-numbers_words left right = numbers_line left ++ codes "  |" ++ numbers_line right
+use Rattle.bg_table.specs.BoardLines.{board_line}
+use Rattle.bg_table.specs.declared.board_lines.Line.TheVariants.{Numbers, Counts}
 
 -- the reader's points: his home board is below, at the right
 abbrev pub upper_left : List ℕ
@@ -53,8 +35,8 @@ seen_aside b reader = codes "bar: " ++ aside_words b reader 25 ++ codes "; off: 
 -- the board of a reader, in five lines
 unfoldable pub seen_board : Position → Player → List ℕ
 seen_board b reader =
-    line_text (numbers_words upper_left upper_right)
-    ++ line_text (seen_line b reader upper_left upper_right)
-    ++ line_text (seen_line b reader lower_left lower_right)
-    ++ line_text (numbers_words lower_left lower_right)
+    line_text (board_line Numbers b reader upper_left upper_right)
+    ++ line_text (board_line Counts b reader upper_left upper_right)
+    ++ line_text (board_line Counts b reader lower_left lower_right)
+    ++ line_text (board_line Numbers b reader lower_left lower_right)
     ++ line_text (seen_aside b reader)

@@ -17,6 +17,7 @@
 //! ```
 #![tactic(auto)]
 
+mod board_lines;
 mod dice_left;
 mod distinct_turns;
 mod drawings;

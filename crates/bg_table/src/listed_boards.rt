@@ -1,11 +1,11 @@
 //! The board as a list of points, as a player sees it.
-ghost use Rattle.std.specs.Prelude.{◌≡◌, ◌≤◌, ◌++◌, OnOk, IsTrue, codes};
-ghost use Rattle.std.specs.Fmt.{decimal};
+ghost use Rattle.std.specs.Prelude.{◌≡◌, ◌≤◌, ◌++◌, OnOk, IsTrue};
 ghost use Rattle.std.specs.List.{list_all};
 ghost use Rattle.bg_text.specs.Boards.BoardText.{is_point, line_text};
 ghost use Rattle.bg_table.specs.SeenBoards.{aside_words};
 ghost use Rattle.bg_table.specs.DrawnBoards.{all_points_listed, listed_board, listed_point, listed_points};
 
+use crate::board_lines::holder_of;
 use crate::seen_boards::put_aside;
 use bg_board::{BAR, Board, OFF, Player};
 use bg_text::{letter, put_number, put_text};
@@ -71,7 +71,8 @@ fn put_listed_points(
     Ok(())
 }
 
-/// Appends the line of a point, if it has checkers.
+/// Appends the line of a point, if it has checkers: its number, the letter of the player whose
+/// checkers they are, and how many they are.
 fn put_listed_point(
     out: &mut Vec<u8>,
     board: &Board,
@@ -81,26 +82,13 @@ fn put_listed_point(
     requires { IsTrue (is_point point) }
     ensures { OnOk result (out.new.items ≡ out.old.items ++ listed_point board.now reader point) }
 {
-    let own = board.count(reader, point);
-    let other = board.count(reader.opponent(), BAR - point);
-    if own > 0 {
-        put_stand(out, point, letter(reader), own)
-    } else if other > 0 {
-        put_stand(out, point, letter(reader.opponent()), other)
-    } else {
-        Ok(())
+    let (player, checkers) = holder_of(board, reader, point);
+    if checkers == 0 {
+        return Ok(());
     }
-}
-
-/// Appends a line with a point, the letter of the player whose checkers are there, and their
-/// number.
-fn put_stand(out: &mut Vec<u8>, point: u8, mark: &str, checkers: u8) -> Result<(), AllocError>
-    ensures { OnOk result (out.new.items ≡ out.old.items
-        ++ decimal point ++ codes " " ++ line_text (mark.now ++ decimal checkers)) }
-{
     put_number(out, point.into())?;
     put_text(out, " ")?;
-    put_text(out, mark)?;
+    put_text(out, letter(player))?;
     put_number(out, checkers.into())?;
     put_text(out, "\n")
 }
