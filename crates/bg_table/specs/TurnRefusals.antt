@@ -1,5 +1,5 @@
 -- Why a turn is refused, as a sentence.
-use Rattle.std.specs.Prelude.{◌≡◌, ◌==◌, ◌↔◌, ℕ, Option, List, [], ◌∷◌, ◌++◌, length, codes, AllPairs}
+use Rattle.std.specs.Prelude.{◌≡◌, ◌==◌, ◌↔◌, ℕ, Bool, true, false, Option, List, [], ◌∷◌, ◌++◌, length, codes, AllPairs}
 use Rattle.std.specs.Prelude.{Contains, if◌then◌else◌}
 use Rattle.std.specs.Fmt.{decimal}
 use Rattle.bg_board.specs.FromTo.{FromTo}
@@ -41,18 +41,16 @@ count_words dice count =
 unfoldable pub must_play_words : Dice → List FromTo → List ℕ
 must_play_words dice steps = codes "you must play " ++ count_words dice (length steps) ++ example_words steps
 
--- of the legal turns the greatest is said, and how many steps it has
-abbrev pub more_words : Dice → List (List FromTo) → List ℕ
-more_words dice [] = codes "you must play more"
-more_words dice (greatest ∷ turns) = must_play_words dice greatest
-
 -- as in "you must play the larger die, 6: 24-18 can be played"
 unfoldable pub must_play_larger_words : ℕ → List FromTo → List ℕ
 must_play_larger_words larger steps = codes "you must play the larger die, " ++ decimal larger ++ example_words steps
 
-abbrev pub larger_words : Dice → List (List FromTo) → List ℕ
-larger_words dice [] = codes "you must play the larger die"
-larger_words dice (greatest ∷ turns) = must_play_larger_words (larger_die dice) greatest
+-- what must be played, the larger die or more steps, with the greatest of the legal turns
+abbrev pub wanted_words : Bool → Dice → List (List FromTo) → List ℕ
+wanted_words false dice [] = codes "you must play more"
+wanted_words true dice [] = codes "you must play the larger die"
+wanted_words false dice (greatest ∷ turns) = must_play_words dice greatest
+wanted_words true dice (greatest ∷ turns) = must_play_larger_words (larger_die dice) greatest
 
 -- the line refuses the step behind so many that can be played
 abbrev pub IsStepLine : Position → Player → Dice → List FromTo → ℕ → List ℕ → Type 0
@@ -61,19 +59,14 @@ IsStepLine b player dice steps playable line =
     × IsRefusedAt b player dice left steps playable refusal
     × (line ≡ line_text (refusal_words b player dice refusal))
 
--- the line says that more steps must be played
-abbrev pub IsMoreLine : Position → Player → Dice → List ℕ → Type 0
-IsMoreLine b player dice line =
-    (turns : List (List FromTo)) × AreLegalTurns b player dice turns × (line ≡ line_text (more_words dice turns))
-
--- the line says that the larger die must be played
-abbrev pub IsLargerLine : Position → Player → Dice → List ℕ → Type 0
-IsLargerLine b player dice line =
-    (turns : List (List FromTo)) × AreLegalTurns b player dice turns × (line ≡ line_text (larger_words dice turns))
+-- the line says what must be played
+abbrev pub IsWantedLine : Bool → Position → Player → Dice → List ℕ → Type 0
+IsWantedLine larger b player dice line =
+    (turns : List (List FromTo)) × AreLegalTurns b player dice turns × (line ≡ line_text (wanted_words larger dice turns))
 
 -- the line says why a turn with this fault is refused, with the greatest legal turn where another
 -- one must be played
 abbrev pub IsTurnRefusal : Position → Player → Dice → List FromTo → TurnFault → List ℕ → Type 0
 IsTurnRefusal b player dice steps (StepIllegal playable) line = IsStepLine b player dice steps playable line
-IsTurnRefusal b player dice steps MoreCanBePlayed line = IsMoreLine b player dice line
-IsTurnRefusal b player dice steps LargerMustBePlayed line = IsLargerLine b player dice line
+IsTurnRefusal b player dice steps MoreCanBePlayed line = IsWantedLine false b player dice line
+IsTurnRefusal b player dice steps LargerMustBePlayed line = IsWantedLine true b player dice line

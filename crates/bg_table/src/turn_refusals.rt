@@ -2,9 +2,8 @@
 ghost use Rattle.std.specs.Prelude.{◌≡◌, ◌++◌, IfOk, OnOk};
 ghost use Rattle.bg_board.specs.Die.{pips};
 ghost use Rattle.bg_table.specs.Grown.{Adds};
-ghost use Rattle.bg_table.specs.TurnRefusals.{IsLargerLine, IsMoreLine, IsStepLine, IsTurnRefusal, count_words};
-ghost use Rattle.bg_table.specs.TurnRefusals.{example_words, larger_words, more_words, must_play_larger_words};
-ghost use Rattle.bg_table.specs.TurnRefusals.{must_play_words, of_four_words};
+ghost use Rattle.bg_table.specs.TurnRefusals.{IsStepLine, IsTurnRefusal, IsWantedLine, count_words, example_words};
+ghost use Rattle.bg_table.specs.TurnRefusals.{must_play_larger_words, must_play_words, of_four_words, wanted_words};
 
 use crate::dice_left::dice_left;
 use crate::step_refusals::{put_die, put_step_refusal, refused_step};
@@ -62,8 +61,8 @@ pub(crate) fn put_turn_refusal(
         TurnFault::StepIllegal(playable) => {
             put_illegal_step(out, board, player, dice, turn.steps(), playable)
         }
-        TurnFault::MoreCanBePlayed => put_more_line(alloc, out, board, player, dice),
-        TurnFault::LargerMustBePlayed => put_larger_line(alloc, out, board, player, dice),
+        TurnFault::MoreCanBePlayed => put_wanted_line(alloc, out, board, player, dice, false),
+        TurnFault::LargerMustBePlayed => put_wanted_line(alloc, out, board, player, dice, true),
     }
 }
 
@@ -85,45 +84,32 @@ fn put_illegal_step(
     Ok(())
 }
 
-/// Appends the line that more steps must be played.
-fn put_more_line(
+/// Appends the line that says what must be played: the larger die or more steps.
+fn put_wanted_line(
     alloc: Global,
     out: &mut Vec<u8>,
     board: &Board,
     player: Player,
     dice: Dice,
+    larger: bool,
 ) -> Result<(), AllocError>
-    ensures { OnOk result (Adds (IsMoreLine board.now player dice) out.old.items out.new.items) }
+    ensures { OnOk result (Adds (IsWantedLine larger board.now player dice) out.old.items out.new.items) }
 {
     let turns = legal_turns(alloc, board, player, dice)?;
-    put_more(out, dice, &turns)?;
+    put_wanted(out, dice, &turns, larger)?;
     put_text(out, "\n")?;
     Ok(())
 }
 
-/// Appends the line that the larger die must be played.
-fn put_larger_line(
-    alloc: Global,
-    out: &mut Vec<u8>,
-    board: &Board,
-    player: Player,
-    dice: Dice,
-) -> Result<(), AllocError>
-    ensures { OnOk result (Adds (IsLargerLine board.now player dice) out.old.items out.new.items) }
+/// Appends that the larger die or more steps must be played, with the greatest of the legal turns.
+fn put_wanted(out: &mut Vec<u8>, dice: Dice, turns: &[Turn], larger: bool) -> Result<(), AllocError>
+    ensures { OnOk result (out.new.items ≡ out.old.items ++ wanted_words larger dice turns.now) }
 {
-    let turns = legal_turns(alloc, board, player, dice)?;
-    put_larger(out, dice, &turns)?;
-    put_text(out, "\n")?;
-    Ok(())
-}
-
-/// Appends that more steps must be played, with the greatest of the legal turns.
-fn put_more(out: &mut Vec<u8>, dice: Dice, turns: &[Turn]) -> Result<(), AllocError>
-    ensures { OnOk result (out.new.items ≡ out.old.items ++ more_words dice turns.now) }
-{
-    match turns.split_first() {
-        None => put_text(out, "you must play more"),
-        Some((greatest, _)) => put_must_play(out, dice, greatest),
+    match (turns.split_first(), larger) {
+        (None, false) => put_text(out, "you must play more"),
+        (None, true) => put_text(out, "you must play the larger die"),
+        (Some((greatest, _)), false) => put_must_play(out, dice, greatest),
+        (Some((greatest, _)), true) => put_must_play_larger(out, dice.larger(), greatest),
     }
 }
 
@@ -159,16 +145,6 @@ fn put_of_four(out: &mut Vec<u8>, count: u64) -> Result<(), AllocError>
     put_number(out, count)?;
     put_text(out, " of the 4 steps")?;
     Ok(())
-}
-
-/// Appends that the larger die must be played, with the greatest of the legal turns.
-fn put_larger(out: &mut Vec<u8>, dice: Dice, turns: &[Turn]) -> Result<(), AllocError>
-    ensures { OnOk result (out.new.items ≡ out.old.items ++ larger_words dice turns.now) }
-{
-    match turns.split_first() {
-        None => put_text(out, "you must play the larger die"),
-        Some((greatest, _)) => put_must_play_larger(out, dice.larger(), greatest),
-    }
 }
 
 /// Appends that this die, the larger one, must be played, with a turn that plays it.
