@@ -8,7 +8,7 @@ use bg_match::{Number, Phase, Record};
 use bg_processes::{Failures, LivenessChange, NamedMatch};
 use bg_reports::Ending;
 use bg_world::{Event, Outcome, outcome_text};
-use std::alloc::Global;
+use std::alloc::{AllocError, Global};
 use std::fmt::{Display, Formatter, Write};
 use std::{fmt, io};
 
@@ -181,7 +181,10 @@ impl<'a> LiveBoard<'a> {
     }
 
     /// Keeps an error for the screen, and prints it where the standard error is another place.
-    fn note_trouble(&mut self, words: String) {
+    fn note_trouble(&mut self, words: Result<String, AllocError>) {
+        let Ok(words) = words else {
+            return;
+        };
         if self.trouble.as_ref() == Some(&words) {
             return;
         }
@@ -204,16 +207,12 @@ impl<'a> Observer for LiveBoard<'a> {
     fn happened(&mut self, event: &Event, outcome: &Outcome, _held: Option<Number>) {
         let alloc = self.rt.alloc();
         for failure in self.failures.drain() {
-            if let Ok(words) = format!(in alloc; "{}", failure.in_folder("")) {
-                self.note_trouble(words);
-            }
+            self.note_trouble(format!(in alloc; "{}", failure.in_folder("")));
         }
         if is_out_of_step(outcome) {
             let (party, line) = (party_at(event), outcome_text(outcome));
             let words = format!(in alloc; "{APART}: at party {party}: {}", line.as_str());
-            if let Ok(words) = words {
-                self.note_trouble(words);
-            }
+            self.note_trouble(words);
         }
     }
 
