@@ -30,8 +30,8 @@ pub fn columns(rt: &HostRuntime) -> Option<usize> {
 }
 
 /// Returns what the environment says about standard output, if it is a terminal. Its columns and
-/// lines are those of COLUMNS and LINES, or else 80 and 24. If TERM is `dumb`, it knows no
-/// sequences and has no colours. If NO_COLOR is not empty, it has no colours.
+/// lines are those of COLUMNS and LINES, or 80 and 24 where these are missing or 0. If TERM is
+/// `dumb`, it knows no sequences and has no colours. If NO_COLOR is not empty, it has no colours.
 pub fn output_terminal(rt: &HostRuntime) -> Option<Terminal> {
     if !rt.stdout().is_terminal() {
         return None;
@@ -52,7 +52,9 @@ pub fn output_terminal(rt: &HostRuntime) -> Option<Terminal> {
     })
 }
 
-/// Returns the number in an environment variable, if it has one.
+/// Returns the number in an environment variable, if it has one. A size of 0 is that of a terminal
+/// that doesn't know its own.
 fn number_in(rt: &HostRuntime, name: &str) -> Option<usize> {
-    env::var(rt, name).ok()?.parse().ok()
+    let number: usize = env::var(rt, name).ok()?.parse().ok()?;
+    (number > 0).then_some(number)
 }

@@ -25,7 +25,9 @@ try_lines_on_screens() {
     (unset COLUMNS && on_screen check wide || true) >> "$work/stdout"
     printf 'length 1\nopen 3 1 and much more than that, and more, and more, and more\n' > wide
     (unset COLUMNS && on_screen check wide || true) >> "$work/stdout"
-    (COLUMNS=none && export COLUMNS && on_screen check wide || true) >> "$work/stdout"
+    for columns in none 0; do
+        COLUMNS=$columns on_screen check wide || true
+    done >> "$work/stdout"
     cat > "$work/expected" << 'END'
 wide: refused at line 2: not a line: open 3 1 and much mo...
 good: ok 2, not over
@@ -37,6 +39,7 @@ wide: refused at line 2: not a line
 good: ok 2, not over
 wæde: refused at line 2: not a line
 wide: refused at line 2: not a line: open 3 1 and much more than that
+wide: refused at line 2: not a line: open 3 1 and much more than that, and mo...
 wide: refused at line 2: not a line: open 3 1 and much more than that, and mo...
 wide: refused at line 2: not a line: open 3 1 and much more than that, and mo...
 END
