@@ -3,16 +3,16 @@
 mod beside;
 mod targets;
 
+use crate::attempts::done_at;
 use crate::batches::beside::{bytes_beside, headers_beside, keep_headers};
 use crate::batches::targets::{NameEndings, check_targets, target_of};
-use crate::inputs::{match_file_text, read_input, transcript_as_match_file};
-use bg_console::{Progress, allocated, check_out_folder, failed_at, say, wrong, wrong_at};
+use crate::inputs::{check_name, file_bytes, match_file_text, transcript_as_match_file};
+use bg_console::{Progress, allocated, check_out_folder, say, wrong_at};
 use bg_match::Rules;
 use bg_options::{BatchOptions, HeaderOptions};
 use bg_reports::{Ending, Tally};
 use bg_system::publish;
 use std::fs;
-use std::fs::File;
 use std::rt::Files;
 
 /// The conversion of each file.
@@ -52,11 +52,6 @@ impl<'a> Conversion<'a> {
             Conversion::Export(headers) => transcript_as_match_file(rt, name, headers, bytes),
         }
     }
-
-    /// Returns whether match files are read.
-    fn is_import(&self) -> bool {
-        matches!(self, Conversion::Import(_))
-    }
 }
 
 /// Converts files into a folder, each by itself. Reports those that are refused, and the numbers of
@@ -65,9 +60,8 @@ pub(crate) fn convert_all(
     rt: &HostRuntime,
     conversion: Conversion<'_>,
     batch: BatchOptions<'_, '_>,
-    progress: Progress,
+    mut progress: Progress,
 ) -> Result<Ending, Ending> {
-    let mut progress = progress;
     check_out_folder(rt, batch.folder)?;
     check_targets(rt, &batch, conversion.endings())?;
     let mut tally = Tally::default();
@@ -97,9 +91,10 @@ fn convert(
     batch: &BatchOptions<'_, '_>,
     name: &str,
 ) -> Result<(), Ending> {
-    let bytes = bytes_of(rt, name)?;
+    check_name(rt, name)?;
+    let bytes = file_bytes(rt, name)?;
     write_one(rt, conversion, batch, name, &bytes)?;
-    if batch.has_headers && conversion.is_import() {
+    if batch.has_headers && matches!(conversion, Conversion::Import(_)) {
         keep_headers(rt, batch.folder, name, &bytes, batch.is_forced)?;
     }
     Ok(())
@@ -119,21 +114,6 @@ fn write_one(
     put_file(rt, target.as_str(), &text, batch.is_forced)
 }
 
-/// Returns the bytes of a file with this name. Reports why where it can't be read.
-fn bytes_of(rt: &HostRuntime, name: &str) -> Result<Vec<u8>, Ending> {
-    if name.is_empty() {
-        return Err(wrong(rt, "the name of a file is empty"));
-    }
-    let bytes = match File::open(rt, name) {
-        Ok(file) => read_input(rt.alloc(), file),
-        Err(error) => Err(error),
-    };
-    match bytes {
-        Ok(bytes) => Ok(bytes),
-        Err(error) => Err(failed_at(rt, name, " could not be read", &error)),
-    }
-}
-
 /// Writes a file, whole. Refuses one that exists, unless it may be overwritten.
 pub(crate) fn put_file(
     rt: &HostRuntime,
@@ -144,8 +124,5 @@ pub(crate) fn put_file(
     if !is_forced && fs::metadata(rt, path).is_ok() {
         return Err(wrong_at(rt, path, " exists: --force overwrites it"));
     }
-    match publish(rt, path, bytes) {
-        Ok(()) => Ok(()),
-        Err(error) => Err(failed_at(rt, path, " could not be written", &error)),
-    }
+    done_at(rt, path, " could not be written", publish(rt, path, bytes))
 }

@@ -1,7 +1,8 @@
 //! The command that judges many files.
 
+use crate::checkers::Checker;
 use crate::checkers::lists::unread_list;
-use crate::checkers::{Checker, STANDARD_INPUT};
+use crate::inputs::{STANDARD_INPUT, check_name};
 use crate::walks::is_folder;
 use bg_console::{Progress, wrong};
 use bg_options::CheckOptions;
@@ -64,9 +65,7 @@ fn check_list(rt: &HostRuntime, checker: &mut Checker<'_>, list: &str) -> Result
 fn check_names(rt: &HostRuntime, files: &[&str], list: Option<&str>) -> Result<(), Ending> {
     let mut inputs: usize = 0;
     for name in files.iter().copied().chain(list) {
-        if name.is_empty() {
-            return Err(wrong(rt, "the name of a file is empty"));
-        }
+        check_name(rt, name)?;
         if name == STANDARD_INPUT {
             inputs = inputs.saturating_add(1);
         }

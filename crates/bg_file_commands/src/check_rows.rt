@@ -110,11 +110,17 @@ fn put_headers(
     out: &mut Vec<u8>,
     headers: &Headers<'_>,
 ) -> Result<(), AllocError> {
-    put_optional(alloc, form, out, "name_x", headers.x)?;
-    put_optional(alloc, form, out, "name_o", headers.o)?;
-    put_optional(alloc, form, out, "date", headers.date)?;
-    put_optional(alloc, form, out, "event", headers.event)?;
-    put_optional(alloc, form, out, "place", headers.place)?;
+    let texts = &headers.texts;
+    let fields = [
+        ("name_x", texts.x),
+        ("name_o", texts.o),
+        ("date", texts.date),
+        ("event", texts.event),
+        ("place", texts.place),
+    ];
+    for (name, text) in fields {
+        put_optional(alloc, form, out, name, text)?;
+    }
     match headers.fault {
         Some(fault) => {
             let words = format!(in alloc; "{fault}")?;

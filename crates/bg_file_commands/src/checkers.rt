@@ -2,21 +2,18 @@
 
 pub(crate) mod lists;
 
+use crate::attempts::gathered;
 use crate::check_rows::{HEADINGS, row_of, unread_row};
-use crate::inputs::read_input;
+use crate::inputs::{STANDARD_INPUT, read_file, read_input};
 use crate::walks::files_below;
-use bg_console::{Progress, allocated, no_memory, print_text, say, say_of, say_why};
+use bg_console::{Progress, allocated, print_text, say, say_of, say_why};
 use bg_options::CheckFormat;
 use bg_reports::{Ending, RowForm, Tally, check_text};
 use bg_system::Printable;
 use bg_text::Verdict;
 use std::alloc::{AllocError, Global};
-use std::fs::File;
 use std::io;
 use std::io::ErrorKind;
-
-/// The name for the standard input.
-pub(crate) const STANDARD_INPUT: &str = "-";
 
 /// Goes through many files, prints the result of each, and counts them.
 #[derive(Drop)]
@@ -26,7 +23,8 @@ pub(crate) struct Checker<'a> {
     columns: Option<usize>,
     /// Whether nothing is printed for good files.
     is_quiet: bool,
-    format: CheckFormat,
+    /// The form of the rows, if there are rows.
+    form: Option<RowForm>,
     progress: Progress,
     tally: Tally,
 }
@@ -49,7 +47,7 @@ impl<'a> Checker<'a> {
             rt,
             columns,
             is_quiet,
-            format,
+            form: form_of(format),
             progress,
             tally: Tally::default(),
         })
@@ -57,10 +55,7 @@ impl<'a> Checker<'a> {
 
     /// Judges the files in a folder and below it.
     pub(crate) fn check_below(&mut self, folder: &str) -> Result<(), Ending> {
-        let Ok(places) = files_below(self.rt, folder) else {
-            return Err(no_memory(self.rt));
-        };
-        for place in places {
+        for place in gathered(self.rt, files_below(self.rt, folder))? {
             match place.fault {
                 Some(error) => self.tell(place.path.as_str(), Err(error))?,
                 None => self.check_file(place.path.as_str())?,
@@ -80,11 +75,7 @@ impl<'a> Checker<'a> {
 
     /// Judges the file with this name.
     fn check_file(&mut self, name: &str) -> Result<(), Ending> {
-        let bytes = match File::open(self.rt, name) {
-            Ok(file) => read_input(self.rt.alloc(), file),
-            Err(error) => Err(error),
-        };
-        self.tell(name, bytes)
+        self.tell(name, read_file(self.rt, name))
     }
 
     /// Reports that a folder is not judged, and how its files are, and counts it.
@@ -116,7 +107,7 @@ impl<'a> Checker<'a> {
 
     /// Prints the row of a file that could not be read, in the formats for programs.
     fn print_unread(&self, name: &str, error: &io::Error) -> Result<(), Ending> {
-        let Some(form) = form_of(self.format) else {
+        let Some(form) = self.form else {
             return Ok(());
         };
         let row = allocated(self.rt, unread_row(self.rt.alloc(), form, name, error))?;
@@ -144,7 +135,7 @@ impl<'a> Checker<'a> {
     /// Returns the result of a file with this name, and whether it is good.
     fn result(&self, name: &str, bytes: &[u8]) -> Result<(Vec<u8>, bool), AllocError> {
         let alloc = self.rt.alloc();
-        match form_of(self.format) {
+        match self.form {
             None => report_on(alloc, name, bytes, self.columns),
             Some(form) => row_of(alloc, form, name, bytes),
         }

@@ -1,12 +1,10 @@
 //! The command that checks the dice of a match by their secret.
 
-use crate::inputs::{read_input, read_record};
-use bg_console::{allocated, failed_at, print_text, wrong};
+use crate::inputs::{file_bytes, read_record};
+use bg_console::{allocated, print_text, wrong};
 use bg_dice::{Secret, checked_text, secret_in};
 use bg_reports::{Ending, Found};
 use bg_system::Printable;
-use std::fs::File;
-use std::io;
 
 /// Prints what the secret in this file says of the dice of the transcript on the standard input.
 pub fn run(rt: &HostRuntime, secret: &str) -> Result<Ending, Ending> {
@@ -23,20 +21,11 @@ pub fn run(rt: &HostRuntime, secret: &str) -> Result<Ending, Ending> {
 
 /// Returns the secret in a file. Reports why where it has none.
 fn secret_of_file(rt: &HostRuntime, path: &str) -> Result<Secret, Ending> {
-    let bytes = match bytes_of(rt, path) {
-        Ok(bytes) => bytes,
-        Err(error) => return Err(failed_at(rt, path, " could not be read", &error)),
-    };
-    match secret_in(&bytes) {
+    match secret_in(&file_bytes(rt, path)?) {
         Ok(secret) => Ok(secret),
         Err(why) => {
             let shown = Printable(path);
             Err(wrong(rt, format_args!("{shown} is refused: {why}")))
         }
     }
-}
-
-/// Returns the bytes of a file.
-fn bytes_of(rt: &HostRuntime, path: &str) -> io::Result<Vec<u8>> {
-    read_input(rt.alloc(), File::open(rt, path)?)
 }

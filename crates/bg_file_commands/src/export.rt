@@ -1,13 +1,10 @@
 //! The command that writes matches for other programs.
 
 use crate::batches::{Conversion, convert_all};
-use crate::inputs::{standard_input, transcript_as_match_file};
+use crate::inputs::{TRANSCRIPT, standard_input, transcript_as_match_file};
 use bg_console::{Progress, print_text, wrong};
 use bg_options::{ExportOptions, HeaderOptions};
 use bg_reports::Ending;
-
-/// The name of a transcript on the standard input, in messages.
-const TRANSCRIPT: &str = "the transcript";
 
 /// Prints the match file of the transcript on the standard input, or writes those of the named
 /// files into a folder.

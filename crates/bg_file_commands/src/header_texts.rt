@@ -1,6 +1,5 @@
 //! The headers of a match file: the players, and when and where they met.
 
-use crate::headers::Headers;
 use bg_options::HeaderOptions;
 use bg_text::put_text;
 use std::alloc::{AllocError, Global};
@@ -9,27 +8,34 @@ use std::alloc::{AllocError, Global};
 const RIGHT_COLUMN: usize = 32;
 
 /// Appends the lines for the headers of a match file (docs/FORMATS.md, "Headers of match files").
-pub(crate) fn put_headers(out: &mut Vec<u8>, headers: &Headers<'_>) -> Result<(), AllocError> {
-    put_between(out, "name-x ", headers.x, "\n")?;
-    put_between(out, "name-o ", headers.o, "\n")?;
-    put_between(out, "date ", headers.date, "\n")?;
-    put_between(out, "event ", headers.event, "\n")?;
-    put_between(out, "place ", headers.place, "\n")
+pub(crate) fn put_headers(
+    out: &mut Vec<u8>,
+    headers: &HeaderOptions<'_>,
+) -> Result<(), AllocError> {
+    let lines = [
+        ("name-x ", headers.x),
+        ("name-o ", headers.o),
+        ("date ", headers.date),
+        ("event ", headers.event),
+        ("place ", headers.place),
+    ];
+    put_lines(out, lines, "\n")
 }
 
-/// Appends a text between other texts, if there is one.
-fn put_between(
+/// Appends the texts that there are, each behind its words, and these words behind each.
+fn put_lines(
     out: &mut Vec<u8>,
-    before: &str,
-    text: Option<&str>,
+    lines: [(&str, Option<&str>); 5],
     behind: &str,
 ) -> Result<(), AllocError> {
-    let Some(text) = text else {
-        return Ok(());
-    };
-    put_text(out, before)?;
-    put_text(out, text)?;
-    put_text(out, behind)
+    for (before, text) in lines {
+        if let Some(text) = text {
+            put_text(out, before)?;
+            put_text(out, text)?;
+            put_text(out, behind)?;
+        }
+    }
+    Ok(())
 }
 
 /// Appends a match file with these headers above it, and these names in front of its scores. The
@@ -55,11 +61,14 @@ pub(crate) fn put_with_headers(
 
 /// Appends the headers that stand above a match file.
 fn put_above(out: &mut Vec<u8>, headers: &HeaderOptions<'_>) -> Result<(), AllocError> {
-    put_between(out, "; [Site \"", headers.place, "\"]\n")?;
-    put_between(out, "; [Event \"", headers.event, "\"]\n")?;
-    put_between(out, "; [EventDate \"", headers.date, "\"]\n")?;
-    put_between(out, "; [Player 1 \"", headers.x, "\"]\n")?;
-    put_between(out, "; [Player 2 \"", headers.o, "\"]\n")
+    let lines = [
+        ("; [Site \"", headers.place),
+        ("; [Event \"", headers.event),
+        ("; [EventDate \"", headers.date),
+        ("; [Player 1 \"", headers.x),
+        ("; [Player 2 \"", headers.o),
+    ];
+    put_lines(out, lines, "\"]\n")
 }
 
 /// Appends a line with the names and the scores of both players.

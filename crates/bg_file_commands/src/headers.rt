@@ -2,6 +2,7 @@
 
 use crate::marks::BYTE_ORDER_MARK;
 use bg_match::Number;
+use bg_options::HeaderOptions;
 use bg_system::{Name, NameFault};
 use bg_text::split_line;
 use std::fmt::{Display, Formatter, Write};
@@ -67,11 +68,7 @@ impl Display for HeaderFault {
 /// shown as it is.
 #[derive(Clone, Copy)]
 pub(crate) struct Headers<'a> {
-    pub(crate) x: Option<&'a str>,
-    pub(crate) o: Option<&'a str>,
-    pub(crate) date: Option<&'a str>,
-    pub(crate) event: Option<&'a str>,
-    pub(crate) place: Option<&'a str>,
+    pub(crate) texts: HeaderOptions<'a>,
     /// The first text that is malformed.
     pub(crate) fault: Option<HeaderFault>,
 }
@@ -81,11 +78,7 @@ impl<'a> Headers<'a> {
     /// in front of the scores of the first game. Of two for one thing the first counts.
     pub(crate) fn read(bytes: &'a [u8]) -> Headers<'a> {
         let mut headers = Headers {
-            x: None,
-            o: None,
-            date: None,
-            event: None,
-            place: None,
+            texts: HeaderOptions::default(),
             fault: None,
         };
         let mut rest = bytes.strip_prefix(BYTE_ORDER_MARK).unwrap_or(bytes);
@@ -150,11 +143,11 @@ impl<'a> Headers<'a> {
     /// Returns the place of a text.
     fn place_of(&mut self, label: Label) -> &mut Option<&'a str> {
         match label {
-            Label::NameX => &mut self.x,
-            Label::NameO => &mut self.o,
-            Label::Date => &mut self.date,
-            Label::Event => &mut self.event,
-            Label::Place => &mut self.place,
+            Label::NameX => &mut self.texts.x,
+            Label::NameO => &mut self.texts.o,
+            Label::Date => &mut self.texts.date,
+            Label::Event => &mut self.texts.event,
+            Label::Place => &mut self.texts.place,
         }
     }
 }

@@ -1,17 +1,13 @@
 //! The records that seats and transcripts hold of a match.
 
-use crate::inputs::{read_input, record_in};
+use crate::inputs::{STANDARD_INPUT, check_name, file_bytes, record_in, standard_input};
+use crate::saved_files::{slot_of, slots_of};
 use bg_board::Player;
-use bg_console::{allocated, failed_at, no_memory, say, slot_path, unread, wrong, wrong_at};
+use bg_console::{no_memory, say, wrong, wrong_at};
 use bg_match::{Number, Record};
-use bg_reports::{Compared, Ending, compare};
-use bg_system::{MatchFile, Printable, read_saved};
+use bg_reports::{Compared, Ending, SlotBytes, compare};
+use bg_system::{MatchFile, Printable};
 use bg_wire::{REFEREE, RestoreRefusal, Saved, Slot, party_of, restore};
-use std::fs::File;
-use std::io;
-
-/// The name for the standard input.
-const STANDARD_INPUT: &str = "-";
 
 /// The record that one of the sources holds of the match, with the name of the source.
 #[derive(Drop)]
@@ -113,8 +109,7 @@ fn restored(
     folder: &str,
     party: u8,
 ) -> Result<Result<Option<Saved>, RestoreRefusal>, Ending> {
-    let zero = slot_of(rt, folder, party, Slot::Zero)?;
-    let one = slot_of(rt, folder, party, Slot::One)?;
+    let SlotBytes { zero, one } = slots_of(rt, folder, party)?;
     let (length, rules) = (file.terms.length, file.terms.rules);
     Ok(restore(rt.alloc(), &zero, &one, party, file.id, length, rules))
 }
@@ -148,37 +143,17 @@ fn has_saved(rt: &HostRuntime, folder: &str, party: u8, slot: Slot) -> Result<bo
     Ok(!slot_of(rt, folder, party, slot)?.is_empty())
 }
 
-/// Reads the bytes of a party's file in a folder.
-fn slot_of(rt: &HostRuntime, folder: &str, party: u8, slot: Slot) -> Result<Vec<u8>, Ending> {
-    let path = allocated(rt, slot_path(rt.alloc(), folder, party, slot))?;
-    match read_saved(rt, path.as_str()) {
-        Ok(bytes) => Ok(bytes),
-        Err(error) => Err(failed_at(rt, path.as_str(), " could not be read", &error)),
-    }
-}
-
 /// Reads the transcript with this name as a record of the match.
 pub(crate) fn transcript_of(
     rt: &HostRuntime,
     file: MatchFile,
     name: &str,
 ) -> Result<Record, Ending> {
-    if name.is_empty() {
-        return Err(wrong(rt, "the name of a file is empty"));
-    }
-    if name == STANDARD_INPUT {
-        return match read_input(rt.alloc(), rt.reader()) {
-            Ok(bytes) => record_in(rt, name, file.id, &bytes),
-            Err(error) => Err(unread(rt, &error)),
-        };
-    }
-    match file_bytes(rt, name) {
-        Ok(bytes) => record_in(rt, name, file.id, &bytes),
-        Err(error) => Err(failed_at(rt, name, " could not be read", &error)),
-    }
-}
-
-/// Reads the bytes of a file, up to the limit of what is judged.
-fn file_bytes(rt: &HostRuntime, name: &str) -> io::Result<Vec<u8>> {
-    read_input(rt.alloc(), File::open(rt, name)?)
+    check_name(rt, name)?;
+    let bytes = if name == STANDARD_INPUT {
+        standard_input(rt)?
+    } else {
+        file_bytes(rt, name)?
+    };
+    record_in(rt, name, file.id, &bytes)
 }

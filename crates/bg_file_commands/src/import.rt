@@ -41,6 +41,6 @@ fn keep_headers(
         say(rt, format_args!("{fault}: it is left out"));
     }
     let mut text = Vec::new(rt.alloc());
-    allocated(rt, put_headers(&mut text, headers))?;
+    allocated(rt, put_headers(&mut text, &headers.texts))?;
     put_file(rt, path, &text, is_forced)
 }

@@ -1,7 +1,8 @@
 //! Reading the bytes of an input.
 
+use crate::attempts::done_at;
 use crate::header_texts::put_with_headers;
-use bg_console::{allocated, no_memory, say, unread};
+use bg_console::{allocated, no_memory, say, unread, wrong};
 use bg_mat::{export_mat, import_mat, is_match_file};
 use bg_match::{Record, Rules};
 use bg_options::HeaderOptions;
@@ -9,6 +10,7 @@ use bg_reports::{Ending, said_of_import_fault, said_of_transcript_fault};
 use bg_system::Printable;
 use bg_text::{MAX_INPUT, Verdict, read_transcript, transcript_text};
 use std::alloc::{AllocError, Global};
+use std::fs::File;
 use std::io;
 use std::io::Read;
 
@@ -21,14 +23,35 @@ pub(crate) const IS_MATCH_FILE: &str = "it is a match file, of which `import` ma
 /// The message on a transcript where a match file is asked for.
 const IS_TRANSCRIPT: &str = "it begins as a transcript, of which `export` makes a match file";
 
+/// The name for the standard input.
+pub(crate) const STANDARD_INPUT: &str = "-";
+
 /// The name of a transcript on the standard input, in messages.
-const TRANSCRIPT: &str = "the transcript";
+pub(crate) const TRANSCRIPT: &str = "the transcript";
 
 /// Reads the bytes of an input, up to the limit of what is judged, and one more of a longer one.
 pub(crate) fn read_input(alloc: Global, input: impl Read + Drop) -> io::Result<Vec<u8>> {
     let mut bytes = Vec::new(alloc);
     input.take(MAX_INPUT as u64 + 1).read_to_end(&mut bytes)?;
     Ok(bytes)
+}
+
+/// Reads the bytes of a file, up to the same limit.
+pub(crate) fn read_file(rt: &HostRuntime, path: &str) -> io::Result<Vec<u8>> {
+    read_input(rt.alloc(), File::open(rt, path)?)
+}
+
+/// Reads the bytes of a file, up to the same limit. Reports why where it can't be read.
+pub(crate) fn file_bytes(rt: &HostRuntime, path: &str) -> Result<Vec<u8>, Ending> {
+    done_at(rt, path, " could not be read", read_file(rt, path))
+}
+
+/// Refuses an empty file name.
+pub(crate) fn check_name(rt: &HostRuntime, name: &str) -> Result<(), Ending> {
+    if name.is_empty() {
+        return Err(wrong(rt, "the name of a file is empty"));
+    }
+    Ok(())
 }
 
 /// Reads the bytes of the standard input, up to the limit of what is judged. Reports why where it

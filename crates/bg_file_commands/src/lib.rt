@@ -13,6 +13,7 @@
 //! ```
 #![tactic(auto)]
 
+mod attempts;
 mod batches;
 pub mod check;
 mod check_rows;
@@ -26,7 +27,6 @@ mod held_records;
 pub mod id;
 pub mod import;
 mod inputs;
-mod json;
 pub mod judge;
 pub mod keys;
 pub mod list;
@@ -38,5 +38,6 @@ pub mod picture;
 mod played_by;
 mod ports_beside;
 pub mod recover;
+mod saved_files;
 pub mod show;
 mod walks;

@@ -8,6 +8,7 @@ mod rows;
 mod saves;
 mod times;
 
+use crate::attempts::gathered;
 use crate::list::aligning::aligned;
 pub(crate) use crate::list::examining::standing_in;
 use crate::list::examining::{Listed, Soundness, examine};
@@ -15,7 +16,7 @@ pub(crate) use crate::list::locks::Locks;
 use crate::list::objects::put_object;
 use crate::list::rows::put_row;
 use bg_console::{
-    Finding, MatchBelow, NO_MATCH, allocated, matches_below, no_memory, print_text, say_of, wrong,
+    Finding, MatchBelow, NO_MATCH, allocated, matches_below, print_text, say_of, wrong,
 };
 use bg_options::{ListFormat, ListOptions};
 use bg_reports::{Ending, Found};
@@ -51,15 +52,15 @@ fn list(
     locks: &Locks,
     lines: &mut Vec<u8>,
 ) -> Result<Soundness, Ending> {
-    let mut places = read(rt, matches_below(rt, folder))?;
+    let mut places = gathered(rt, matches_below(rt, folder))?;
     places.retain(|place| !matches!(place.finding, Finding::WatchKey));
     if places.is_empty() {
         say_of(rt, folder, NO_MATCH);
     }
     let mut worst = Soundness::Sound;
     for place in places {
-        let listed = read(rt, listing_of(rt, place, locks))?;
-        worst = worst.or(listed.soundness);
+        let listed = gathered(rt, listing_of(rt, place, locks))?;
+        worst = worst.or(listed.held.soundness);
         allocated(rt, put_line(rt.alloc(), format, lines, &listed))?;
     }
     Ok(worst)
@@ -94,13 +95,5 @@ fn print_lines(rt: &HostRuntime, format: ListFormat, lines: &[u8]) -> Result<(),
             print_text(rt, &text)
         }
         ListFormat::Json => print_text(rt, lines),
-    }
-}
-
-/// Returns the result of reading, which fails for want of memory alone. Reports that failure.
-fn read<T>(rt: &HostRuntime, attempt: io::Result<T>) -> Result<T, Ending> {
-    match attempt {
-        Ok(found) => Ok(found),
-        Err(_) => Err(no_memory(rt)),
     }
 }

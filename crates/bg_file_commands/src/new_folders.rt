@@ -1,8 +1,8 @@
 //! Creating a referee's folder.
 
+use crate::attempts::done_at;
 use bg_console::{
-    allocated, failed, failed_at, has_key_secret, own_folder, path_in, without_slashes, written,
-    wrong,
+    allocated, failed, has_key_secret, own_folder, path_in, without_slashes, written, wrong,
 };
 use bg_dice::{Digest, digest_of, told_text, write_digest};
 use bg_reports::Ending;
@@ -34,17 +34,13 @@ pub(crate) fn begin_folder(rt: &HostRuntime, folder: &str) -> Result<FolderLock,
 
 /// Writes a new secret of the dice to the folder, and its SHA-256, which it returns.
 pub(crate) fn make_secret_of_dice(rt: &HostRuntime, folder: &str) -> Result<Digest, Ending> {
-    if let Err(error) = make_secret(rt, folder) {
-        return Err(failed_at(rt, folder, "/secret could not be written", &error));
-    }
-    let digest = match read_secret(rt, folder) {
-        Ok(secret) => digest_of(&secret),
-        Err(error) => return Err(failed_at(rt, folder, "/secret could not be read", &error)),
-    };
-    match write_digest(rt, folder, &digest) {
-        Ok(()) => Ok(digest),
-        Err(error) => Err(failed_at(rt, folder, "/dice could not be written", &error)),
-    }
+    let made = make_secret(rt, folder);
+    done_at(rt, folder, "/secret could not be written", made)?;
+    let read = read_secret(rt, folder);
+    let digest = digest_of(&done_at(rt, folder, "/secret could not be read", read)?);
+    let written = write_digest(rt, folder, &digest);
+    done_at(rt, folder, "/dice could not be written", written)?;
+    Ok(digest)
 }
 
 /// Prints the SHA-256 of the secret of the dice, which players are told before the first roll.
@@ -57,10 +53,8 @@ pub(crate) fn tell_dice(rt: &HostRuntime, digest: &Digest) -> Result<(), Ending>
 
 /// Writes a new secret of the keys to the folder.
 pub(crate) fn make_secret_of_keys(rt: &HostRuntime, folder: &str) -> Result<(), Ending> {
-    match make_key_secret(rt, folder) {
-        Ok(()) => Ok(()),
-        Err(error) => Err(failed_at(rt, folder, "/key-secret could not be written", &error)),
-    }
+    let made = make_key_secret(rt, folder);
+    done_at(rt, folder, "/key-secret could not be written", made)
 }
 
 /// Removes the secret that keys are derived from, where an earlier attempt to make the folder has
@@ -70,10 +64,8 @@ pub(crate) fn remove_secret_of_keys(rt: &HostRuntime, folder: &str) -> Result<()
         return Ok(());
     }
     let path = allocated(rt, path_in(rt.alloc(), folder, "key-secret"))?;
-    match fs::remove_file(rt, path.as_str()) {
-        Ok(()) => Ok(()),
-        Err(error) => Err(failed_at(rt, path.as_str(), " could not be removed", &error)),
-    }
+    let removed = fs::remove_file(rt, path.as_str());
+    done_at(rt, path.as_str(), " could not be removed", removed)
 }
 
 /// Returns the key files of the match, with its names. Their keys are derived from the secret in
@@ -83,10 +75,9 @@ pub(crate) fn derived_keys(
     folder: &str,
     file: &NamedMatch,
 ) -> Result<KeyFiles, Ending> {
-    match read_key_secret(rt, folder) {
-        Ok(secret) => Ok(KeyFiles::derive(file.table, &secret).named(&file.names)),
-        Err(error) => Err(failed_at(rt, folder, "/key-secret could not be read", &error)),
-    }
+    let read = read_key_secret(rt, folder);
+    let secret = done_at(rt, folder, "/key-secret could not be read", read)?;
+    Ok(KeyFiles::derive(file.table, &secret).named(&file.names))
 }
 
 /// Writes the key files to the folder, and then the match file as the last of its files. So where
@@ -98,10 +89,8 @@ pub(crate) fn end_folder(
     keys: &KeyFiles,
 ) -> Result<(), Ending> {
     write_key_files(rt, folder, keys)?;
-    match file.write(rt, folder) {
-        Ok(()) => Ok(()),
-        Err(error) => Err(failed_at(rt, folder, "/match could not be written", &error)),
-    }
+    let written = file.write(rt, folder);
+    done_at(rt, folder, "/match could not be written", written)
 }
 
 /// Writes the key files to the folder: those of the seats, and that of all watchers.

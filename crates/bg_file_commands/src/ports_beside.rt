@@ -1,8 +1,9 @@
 //! The ports of the matches beside a folder.
 
+use crate::attempts::gathered;
 use crate::list::{Locks, standing_in};
-use bg_console::{MatchBeside, folder_of, matches_beside, no_memory, wrong};
-use bg_match::{Phase, Standing};
+use bg_console::{MatchBeside, folder_of, matches_beside, wrong};
+use bg_match::Phase;
 use bg_reports::Ending;
 use bg_system::Printable;
 use std::io;
@@ -24,11 +25,10 @@ pub(crate) fn check_ports(rt: &HostRuntime, folder: &str, port: u16) -> Result<(
 
 /// Refuses the ports of this match, unless it is over and no process has its folder.
 fn check_over(rt: &HostRuntime, other: &MatchBeside) -> Result<(), Ending> {
-    match is_done(rt, other) {
-        Ok(true) => Ok(()),
-        Ok(false) => Err(taken(rt, other)),
-        Err(_) => Err(no_memory(rt)),
+    if gathered(rt, is_done(rt, other))? {
+        return Ok(());
     }
+    Err(taken(rt, other))
 }
 
 /// Returns whether a match is over, and no process has its folder.
@@ -37,15 +37,10 @@ fn check_over(rt: &HostRuntime, other: &MatchBeside) -> Result<(), Ending> {
 /// `OutOfMemory` alone.
 fn is_done(rt: &HostRuntime, other: &MatchBeside) -> io::Result<bool> {
     let folder = folder_of(other.path.as_str());
-    match standing_in(rt, folder, &other.file) {
-        Ok(Some(standing)) if is_over(&standing) => Ok(!Locks::read(rt).have(rt, folder)?),
-        Ok(_) => Ok(false),
-        Err(error) => Err(error),
+    match standing_in(rt, folder, &other.file)?.map(|standing| standing.phase()) {
+        Some(Phase::Over(_)) => Ok(!Locks::read(rt).have(rt, folder)?),
+        _ => Ok(false),
     }
-}
-
-fn is_over(standing: &Standing) -> bool {
-    matches!(standing.phase(), Phase::Over(_))
 }
 
 /// Reports that this match has the ports.

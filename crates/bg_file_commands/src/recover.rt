@@ -1,5 +1,6 @@
 //! The command that rebuilds a referee's folder from what others hold.
 
+use crate::attempts::done_at;
 use crate::held_records::{Held, saved_of, seat_of, transcript_of};
 use crate::new_folders::{
     begin_folder, derived_keys, end_folder, make_secret_of_dice, make_secret_of_keys,
@@ -7,7 +8,7 @@ use crate::new_folders::{
 };
 use bg_board::Player;
 use bg_console::{
-    check_folder, failed_at, key_files_in, lock_of, no_memory, say, table_of, wrong_at,
+    allocated, check_folder, key_files_in, lock_of, no_memory, say, table_of, wrong_at,
 };
 use bg_match::{Number, Record};
 use bg_options::RecoverOptions;
@@ -27,17 +28,12 @@ pub fn run(rt: &HostRuntime, options: RecoverOptions<'_, '_>) -> Result<Ending, 
     let file = table_of(rt, options.match_path)?;
     // The seats stay locked until the folder is made.
     let mut locks = Vec::new(rt.alloc());
-    match options.keys {
-        Some(folder) => {
-            let kept = key_files_in(rt, folder, &file.table)?.named(&file.names);
-            let longest = longest_of(rt, file.table, &options, &mut locks)?;
-            make_with(rt, &file, options.folder, &kept, &longest)?;
-        }
-        None => {
-            let longest = longest_of(rt, file.table, &options, &mut locks)?;
-            make_anew(rt, &file, options.folder, &longest)?;
-        }
-    }
+    let kept = match options.keys {
+        Some(folder) => Some(key_files_in(rt, folder, &file.table)?.named(&file.names)),
+        None => None,
+    };
+    let longest = longest_of(rt, file.table, &options, &mut locks)?;
+    make(rt, &file, options.folder, kept.as_ref(), &longest)?;
     Ok(Ending::Served)
 }
 
@@ -75,47 +71,36 @@ fn take_seat<'a>(
     if locks.push(lock_of(rt, folder)?).is_err() {
         return Err(no_memory(rt));
     }
-    match seat_of(rt, table, folder, player)? {
-        Some(saved) => longest.take(
-            rt,
-            Held {
-                name: folder,
-                saved,
-            },
-        ),
-        None => Ok(()),
+    if let Some(saved) = seat_of(rt, table, folder, player)? {
+        let name = folder;
+        longest.take(rt, Held { name, saved })?;
     }
+    Ok(())
 }
 
-/// Makes the folder with the keys that are kept, and leaves no secret of other keys in it.
-fn make_with(
+/// Makes the folder with the keys that are kept, or else with new ones and their secret.
+fn make(
     rt: &HostRuntime,
     file: &NamedMatch,
     folder: &str,
-    kept: &KeyFiles,
+    kept: Option<&KeyFiles>,
     longest: &Held<'_>,
 ) -> Result<(), Ending> {
     let _lock = begin_folder(rt, folder)?;
     let digest = make_secret_of_dice(rt, folder)?;
-    remove_secret_of_keys(rt, folder)?;
-    fill(rt, file, folder, kept, longest)?;
-    tell_kept_keys(rt)?;
-    tell_dice(rt, &digest)
-}
-
-/// Makes the folder with new keys, and their secret.
-fn make_anew(
-    rt: &HostRuntime,
-    file: &NamedMatch,
-    folder: &str,
-    longest: &Held<'_>,
-) -> Result<(), Ending> {
-    let _lock = begin_folder(rt, folder)?;
-    let digest = make_secret_of_dice(rt, folder)?;
-    make_secret_of_keys(rt, folder)?;
-    let keys = derived_keys(rt, folder, file)?;
-    fill(rt, file, folder, &keys, longest)?;
-    tell_key_files(rt, folder)?;
+    match kept {
+        Some(keys) => {
+            remove_secret_of_keys(rt, folder)?;
+            fill(rt, file, folder, keys, longest)?;
+            tell_kept_keys(rt)?;
+        }
+        None => {
+            make_secret_of_keys(rt, folder)?;
+            let keys = derived_keys(rt, folder, file)?;
+            fill(rt, file, folder, &keys, longest)?;
+            tell_key_files(rt, folder)?;
+        }
+    }
     tell_dice(rt, &digest)
 }
 
@@ -140,13 +125,9 @@ fn save_first(rt: &HostRuntime, folder: &str, log: &Record) -> Result<(), Ending
         return Err(no_memory(rt));
     };
     let failures = Failures::new();
-    let Ok(mut files) = PartyFiles::new(rt, folder, REFEREE, &failures) else {
-        return Err(no_memory(rt));
-    };
-    match files.write(slot, &text) {
-        Ok(()) => Ok(()),
-        Err(error) => Err(failed_at(rt, folder, "/party-0.1 could not be written", &error)),
-    }
+    let mut files = allocated(rt, PartyFiles::new(rt, folder, REFEREE, &failures))?;
+    let written = files.write(slot, &text);
+    done_at(rt, folder, "/party-0.1 could not be written", written)
 }
 
 /// Reports the entries that a new folder begins with.

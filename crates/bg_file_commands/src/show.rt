@@ -1,10 +1,11 @@
 //! The command that shows saved files.
 
-use bg_console::{allocated, check_folder, failed_at, path_in, print_text, say, slot_path, wrong};
+use crate::inputs::check_name;
+use crate::saved_files::{saved_bytes, slots_of};
+use bg_console::{allocated, check_folder, path_in, print_text, say};
 use bg_options::ShowOptions;
 use bg_reports::{Ending, SlotBytes, folder_text, party_text, restored_transcript, show_text};
-use bg_system::read_saved;
-use bg_wire::{REFEREE, SEAT_OF_O, SEAT_OF_X, Slot};
+use bg_wire::{REFEREE, SEAT_OF_O, SEAT_OF_X};
 use std::alloc::{AllocError, Global};
 use std::fs;
 
@@ -18,9 +19,7 @@ pub fn run(rt: &HostRuntime, options: ShowOptions<'_>) -> Result<Ending, Ending>
         path1,
         wants_transcript,
     } = options;
-    if path0.is_empty() || path1 == Some("") {
-        return Err(wrong(rt, "the name of a file is empty"));
-    }
+    check_name(rt, path0)?;
     match path1 {
         Some(path1) if wants_transcript => print_transcript(rt, path0, path1),
         Some(path1) => show_files(rt, path0, path1),
@@ -39,9 +38,11 @@ fn show_files(rt: &HostRuntime, path0: &str, path1: &str) -> Result<Ending, Endi
 
 /// Reads the bytes of the two files of a party.
 fn named_slots(rt: &HostRuntime, path0: &str, path1: &str) -> Result<SlotBytes, Ending> {
-    let zero = bytes_of(rt, path0)?;
-    let one = bytes_of(rt, path1)?;
-    Ok(SlotBytes { zero, one })
+    check_name(rt, path1)?;
+    Ok(SlotBytes {
+        zero: saved_bytes(rt, path0)?,
+        one: saved_bytes(rt, path1)?,
+    })
 }
 
 /// Prints the transcript of what the two files of a party restore. Where that is nothing, it
@@ -99,15 +100,11 @@ impl Parties {
 
 /// Reads the saved files of a folder.
 fn parties_in(rt: &HostRuntime, folder: &str) -> Result<Parties, Ending> {
-    let has_match = has_match(rt, folder)?;
-    let referee = slots_of(rt, folder, REFEREE)?;
-    let x = slots_of(rt, folder, SEAT_OF_X)?;
-    let o = slots_of(rt, folder, SEAT_OF_O)?;
     Ok(Parties {
-        referee,
-        x,
-        o,
-        has_match,
+        has_match: has_match(rt, folder)?,
+        referee: slots_of(rt, folder, REFEREE)?,
+        x: slots_of(rt, folder, SEAT_OF_X)?,
+        o: slots_of(rt, folder, SEAT_OF_O)?,
     })
 }
 
@@ -120,26 +117,4 @@ fn has_bytes(slots: &SlotBytes) -> bool {
 fn has_match(rt: &HostRuntime, folder: &str) -> Result<bool, Ending> {
     let path = allocated(rt, path_in(rt.alloc(), folder, "match"))?;
     Ok(fs::metadata(rt, path.as_str()).is_ok())
-}
-
-/// Reads the bytes of the two files of a party in a folder.
-fn slots_of(rt: &HostRuntime, folder: &str, party: u8) -> Result<SlotBytes, Ending> {
-    Ok(SlotBytes {
-        zero: slot_of(rt, folder, party, Slot::Zero)?,
-        one: slot_of(rt, folder, party, Slot::One)?,
-    })
-}
-
-/// Reads the bytes of a party's file in a folder.
-fn slot_of(rt: &HostRuntime, folder: &str, party: u8, slot: Slot) -> Result<Vec<u8>, Ending> {
-    let path = allocated(rt, slot_path(rt.alloc(), folder, party, slot))?;
-    bytes_of(rt, path.as_str())
-}
-
-/// Reads the bytes of a saved file.
-fn bytes_of(rt: &HostRuntime, path: &str) -> Result<Vec<u8>, Ending> {
-    match read_saved(rt, path) {
-        Ok(bytes) => Ok(bytes),
-        Err(error) => Err(failed_at(rt, path, " could not be read", &error)),
-    }
 }

@@ -1,16 +1,16 @@
 //! Headers of matches, in files beside their transcripts.
 
+use crate::attempts::done_at;
 use crate::batches::put_file;
 use crate::batches::targets::target_of;
 use crate::header_files::read_headers;
 use crate::header_texts::put_headers;
 use crate::headers::Headers;
-use crate::inputs::read_input;
-use bg_console::{allocated, failed_at, say, wrong};
+use crate::inputs::read_file;
+use bg_console::{allocated, say, wrong};
 use bg_options::HeaderOptions;
 use bg_reports::Ending;
 use bg_system::Printable;
-use std::fs::File;
 use std::io::ErrorKind;
 
 /// The end of the name of a file with headers.
@@ -31,7 +31,7 @@ pub(super) fn keep_headers(
         say(rt, format_args!("{name}: {fault}: it is left out"));
     }
     let mut text = Vec::new(rt.alloc());
-    allocated(rt, put_headers(&mut text, &headers))?;
+    allocated(rt, put_headers(&mut text, &headers.texts))?;
     if text.is_empty() {
         return Ok(());
     }
@@ -45,15 +45,11 @@ pub(super) fn bytes_beside(rt: &HostRuntime, name: &str) -> Result<Vec<u8>, Endi
     let alloc = rt.alloc();
     let stem = name.strip_suffix(".txt").unwrap_or(name);
     let path = allocated(rt, format!(in alloc; "{stem}{ENDING}"))?;
-    let bytes = match File::open(rt, path.as_str()) {
-        Ok(file) => read_input(alloc, file),
+    let bytes = match read_file(rt, path.as_str()) {
         Err(error) if error.kind() == ErrorKind::NotFound => Ok(Vec::new(alloc)),
-        Err(error) => Err(error),
+        read => read,
     };
-    match bytes {
-        Ok(bytes) => Ok(bytes),
-        Err(error) => Err(failed_at(rt, path.as_str(), " could not be read", &error)),
-    }
+    done_at(rt, path.as_str(), " could not be read", bytes)
 }
 
 /// Returns the headers of the bytes of the file beside a transcript with this name. Reports the

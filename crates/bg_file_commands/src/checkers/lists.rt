@@ -1,7 +1,8 @@
 //! Judging the files that a list names.
 
+use crate::attempts::gathered;
 use crate::checkers::Checker;
-use bg_console::{allocated, failed_for, no_memory, say, say_number};
+use bg_console::{allocated, failed_for, say, say_number};
 use bg_reports::{Ending, MOST_SHOWN, harmless};
 use std::io;
 use std::io::{BufRead, BufReader, Read};
@@ -12,9 +13,7 @@ const MOST_NAME_BYTES: u64 = 65_536;
 impl<'a> Checker<'a> {
     /// Judges the files of a list, which has one name per line.
     pub(crate) fn check_list(&mut self, list: impl Read + Drop) -> Result<(), Ending> {
-        let Ok(mut list) = BufReader::new(self.rt.alloc(), list) else {
-            return Err(no_memory(self.rt));
-        };
+        let mut list = gathered(self.rt, BufReader::new(self.rt.alloc(), list))?;
         let mut name = Vec::new(self.rt.alloc());
         for _ in 0..u64::MAX {
             if !self.check_next(&mut list, &mut name)? {

@@ -3,7 +3,7 @@
 use crate::list::locks::Locks;
 use crate::list::saves::{Held, held_in};
 use bg_console::{not_memory, path_in, slot_path};
-use bg_match::{Number, Standing};
+use bg_match::Standing;
 use bg_system::{MatchFile, NamedMatch, read_saved};
 use bg_wire::{REFEREE, Slot};
 use std::alloc::Global;
@@ -42,31 +42,23 @@ pub(crate) struct Listed {
     pub(crate) path: String,
     /// The contents of its match file.
     pub(crate) file: Option<NamedMatch>,
-    /// The standing of the match in the saves.
-    pub(crate) standing: Option<Standing>,
-    /// Number of entries that are saved.
-    pub(crate) entries: Number,
+    /// The contents of its saves, or the fault of its match file.
+    pub(crate) held: Held,
     /// The time of the last save, in seconds since 1970.
     pub(crate) changed: Option<u64>,
     /// Whether a process has locked the folder.
     pub(crate) is_open: bool,
-    pub(crate) soundness: Soundness,
-    /// The fault, where it is not sound.
-    pub(crate) fault: String,
 }
 
 impl Listed {
     /// Returns the listing of a folder of which only the fault is known.
-    fn faulty(path: String, soundness: Soundness, fault: String) -> Listed {
+    fn faulty(path: String, held: Held) -> Listed {
         Listed {
             path,
             file: None,
-            standing: None,
-            entries: 0,
+            held,
             changed: None,
             is_open: false,
-            soundness,
-            fault,
         }
     }
 
@@ -75,8 +67,7 @@ impl Listed {
     /// # Errors
     /// `OutOfMemory` alone.
     pub(crate) fn unread(alloc: Global, path: String, error: io::Error) -> io::Result<Listed> {
-        let fault = unread_words(alloc, "", error)?;
-        Ok(Listed::faulty(path, Soundness::Unread, fault))
+        Ok(Listed::faulty(path, unread(alloc, "", error)?))
     }
 }
 
@@ -87,40 +78,31 @@ impl Listed {
 pub(crate) fn examine(rt: &HostRuntime, path: String, locks: &Locks) -> io::Result<Listed> {
     match match_file_in(rt, path.as_str())? {
         Ok(file) => listing_of(rt, path, file, locks),
-        Err(fault) => Ok(Listed::faulty(path, fault.soundness, fault.words)),
+        Err(fault) => Ok(Listed::faulty(path, fault)),
     }
 }
 
-/// A fault of a match file.
-#[derive(Drop)]
-struct MatchFileFault {
-    soundness: Soundness,
-    words: String,
-}
-
 /// Reads the match file of a folder, or returns what is wrong with it.
-fn match_file_in(rt: &HostRuntime, folder: &str) -> io::Result<Result<NamedMatch, MatchFileFault>> {
+fn match_file_in(rt: &HostRuntime, folder: &str) -> io::Result<Result<NamedMatch, Held>> {
     let name = path_in(rt.alloc(), folder, "match")?;
     Ok(match NamedMatch::read(rt, name.as_str()) {
         Ok(Some(file)) => Ok(file),
-        Ok(None) => Err(MatchFileFault {
-            soundness: Soundness::Unsound,
-            words: String::from_str(rt.alloc(), "match is no match file")?,
-        }),
-        Err(error) => Err(MatchFileFault {
-            soundness: Soundness::Unread,
-            words: unread_words(rt.alloc(), "match ", error)?,
-        }),
+        Ok(None) => {
+            let words = String::from_str(rt.alloc(), "match is no match file")?;
+            Err(Held::faulty(Soundness::Unsound, words))
+        }
+        Err(error) => Err(unread(rt.alloc(), "match ", error)?),
     })
 }
 
-/// Returns the words for a file that can't be read, unless memory ran out.
+/// Returns the result where a file can't be read, unless memory ran out.
 ///
 /// # Errors
 /// `OutOfMemory` alone.
-fn unread_words(alloc: Global, name: &str, error: io::Error) -> io::Result<String> {
+fn unread(alloc: Global, name: &str, error: io::Error) -> io::Result<Held> {
     let error = not_memory(error)?;
-    Ok(format!(in alloc; "{name}could not be read: {error}")?)
+    let words = format!(in alloc; "{name}could not be read: {error}")?;
+    Ok(Held::faulty(Soundness::Unread, words))
 }
 
 /// Returns the listing of a folder with this match file.
@@ -136,12 +118,9 @@ fn listing_of(
     Ok(Listed {
         path,
         file: Some(file),
-        standing: held.standing,
-        entries: held.entries,
+        held,
         changed,
         is_open,
-        soundness: held.soundness,
-        fault: held.fault,
     })
 }
 
@@ -154,10 +133,7 @@ pub(crate) fn standing_in(
     folder: &str,
     table: &MatchFile,
 ) -> io::Result<Option<Standing>> {
-    match settled(rt, folder, table) {
-        Ok(held) => Ok(held.standing),
-        Err(error) => Err(error),
-    }
+    Ok(settled(rt, folder, table)?.standing)
 }
 
 /// Returns what the saves of a folder hold, leaving out a save that is being written.
@@ -176,17 +152,17 @@ fn settled(rt: &HostRuntime, folder: &str, table: &MatchFile) -> io::Result<Held
 fn read(rt: &HostRuntime, folder: &str, table: &MatchFile) -> io::Result<Held> {
     let zero = match bytes_of(rt, folder, Slot::Zero)? {
         Ok(bytes) => bytes,
-        Err(fault) => return Ok(Held::unread(fault)),
+        Err(fault) => return Ok(fault),
     };
     let one = match bytes_of(rt, folder, Slot::One)? {
         Ok(bytes) => bytes,
-        Err(fault) => return Ok(Held::unread(fault)),
+        Err(fault) => return Ok(fault),
     };
     Ok(held_in(rt.alloc(), table, &zero, &one)?)
 }
 
 /// Reads the bytes of one of the referee's files, or returns why it can't be read.
-fn bytes_of(rt: &HostRuntime, folder: &str, slot: Slot) -> io::Result<Result<Vec<u8>, String>> {
+fn bytes_of(rt: &HostRuntime, folder: &str, slot: Slot) -> io::Result<Result<Vec<u8>, Held>> {
     let path = slot_path(rt.alloc(), folder, REFEREE, slot)?;
     match read_saved(rt, path.as_str()) {
         Ok(bytes) => Ok(Ok(bytes)),
@@ -195,7 +171,7 @@ fn bytes_of(rt: &HostRuntime, folder: &str, slot: Slot) -> io::Result<Result<Vec
                 Slot::Zero => "party-0.0 ",
                 Slot::One => "party-0.1 ",
             };
-            Ok(Err(unread_words(rt.alloc(), name, error)?))
+            Ok(Err(unread(rt.alloc(), name, error)?))
         }
     }
 }

@@ -1,11 +1,10 @@
 //! The line of a match for programs: a JSON object.
 
-use crate::json::{put_numbered, put_quoted};
 use crate::list::examining::Listed;
 use crate::list::times::Moment;
 use bg_match::{Phase, Standing};
 use bg_system::{NamedMatch, Names, number_of_rules};
-use bg_text::{put_phase, put_text};
+use bg_text::{put_number, put_phase, put_text};
 use std::alloc::{AllocError, Global};
 
 /// Appends the line of a folder (docs/FORMATS.md, "Lists of matches"). What is unknown is left out.
@@ -27,17 +26,17 @@ pub(crate) fn put_object(
         put_names(alloc, out, names)?;
         put_flag(out, ",\"open\":", listed.is_open)?;
     }
-    if let Some(standing) = &listed.standing {
+    if let Some(standing) = &listed.held.standing {
         put_standing(out, standing)?;
-        put_numbered(out, ",\"entries\":", listed.entries.into())?;
+        put_numbered(out, ",\"entries\":", listed.held.entries.into())?;
     }
     if let Some(seconds) = listed.changed {
         let changed = format!(in alloc; ",\"changed\":\"{}\"", Moment(seconds))?;
         put_text(out, changed.as_str())?;
     }
-    put_flag(out, ",\"saved\":", listed.fault.is_empty())?;
-    if !listed.fault.is_empty() {
-        put_quoted(alloc, out, ",\"fault\":", listed.fault.as_str())?;
+    put_flag(out, ",\"saved\":", listed.held.fault.is_empty())?;
+    if !listed.held.fault.is_empty() {
+        put_quoted(alloc, out, ",\"fault\":", listed.held.fault.as_str())?;
     }
     put_text(out, "}\n")
 }
@@ -76,4 +75,17 @@ fn put_standing(out: &mut Vec<u8>, standing: &Standing) -> Result<(), AllocError
 fn put_flag(out: &mut Vec<u8>, words: &str, is_so: bool) -> Result<(), AllocError> {
     put_text(out, words)?;
     put_text(out, if is_so { "true" } else { "false" })
+}
+
+/// Appends words, and a number behind them.
+fn put_numbered(out: &mut Vec<u8>, words: &str, number: u64) -> Result<(), AllocError> {
+    put_text(out, words)?;
+    put_number(out, number)
+}
+
+/// Appends words, and a text in quotes behind them.
+fn put_quoted(alloc: Global, out: &mut Vec<u8>, words: &str, text: &str) -> Result<(), AllocError> {
+    put_text(out, words)?;
+    let quoted = serde_json::to_vec(alloc, &text).map_err(|_| AllocError)?;
+    out.extend_from_slice(&quoted)
 }

@@ -20,11 +20,11 @@ pub(crate) fn put_row(alloc: Global, out: &mut Vec<u8>, listed: &Listed) -> Resu
     let path = format!(in alloc; "{}\t", Printable(listed.path.as_str()))?;
     put_text(out, path.as_str())?;
     if let Some(NamedMatch { table, names }) = &listed.file {
-        put_numbered(out, "", table.id, "\t")?;
+        put_numbered(out, table.id, "\t")?;
         put_names(alloc, out, names)?;
-        if let Some(standing) = &listed.standing {
+        if let Some(standing) = &listed.held.standing {
             put_standing(out, table, standing)?;
-            put_numbered(out, "", listed.entries.into(), "\t")?;
+            put_numbered(out, listed.held.entries.into(), "\t")?;
             put_changed(alloc, out, listed.changed)?;
             put_text(out, if listed.is_open { "open" } else { NOTHING })?;
             put_text(out, "\t")?;
@@ -36,8 +36,8 @@ pub(crate) fn put_row(alloc: Global, out: &mut Vec<u8>, listed: &Listed) -> Resu
 
 /// Returns the word for the state of the saves.
 fn state_of(listed: &Listed) -> &str {
-    if !listed.fault.is_empty() {
-        listed.fault.as_str()
+    if !listed.held.fault.is_empty() {
+        listed.held.fault.as_str()
     } else if listed.changed.is_none() {
         "nothing saved yet"
     } else {
@@ -61,10 +61,10 @@ fn put_standing(
     standing: &Standing,
 ) -> Result<(), AllocError> {
     let (x, o) = standing.score();
-    put_numbered(out, "", x.into(), "-")?;
-    put_numbered(out, "", o.into(), " of ")?;
-    put_numbered(out, "", table.terms.length.into(), "\t")?;
-    put_numbered(out, "", standing.game().into(), "\t")?;
+    put_numbered(out, x.into(), "-")?;
+    put_numbered(out, o.into(), " of ")?;
+    put_numbered(out, table.terms.length.into(), "\t")?;
+    put_numbered(out, standing.game().into(), "\t")?;
     put_phase(out, standing)?;
     put_text(out, "\t")
 }
@@ -81,14 +81,8 @@ fn put_changed(alloc: Global, out: &mut Vec<u8>, changed: Option<u64>) -> Result
     put_text(out, "\t")
 }
 
-/// Appends a number between these words.
-fn put_numbered(
-    out: &mut Vec<u8>,
-    before: &str,
-    number: u64,
-    behind: &str,
-) -> Result<(), AllocError> {
-    put_text(out, before)?;
+/// Appends a number, and these words behind it.
+fn put_numbered(out: &mut Vec<u8>, number: u64, behind: &str) -> Result<(), AllocError> {
     put_number(out, number)?;
     put_text(out, behind)
 }

@@ -17,12 +17,12 @@ pub(crate) struct Held {
 }
 
 impl Held {
-    /// Returns the result for a save that can't be read, with the reason.
-    pub(crate) fn unread(fault: String) -> Held {
+    /// Returns the result where nothing is known but a fault.
+    pub(crate) fn faulty(soundness: Soundness, fault: String) -> Held {
         Held {
             standing: None,
             entries: 0,
-            soundness: Soundness::Unread,
+            soundness,
             fault,
         }
     }
