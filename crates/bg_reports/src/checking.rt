@@ -70,8 +70,7 @@ fn said_of_transcript(
     ensures { IfOk result (λ checked. IsTranscriptText name.now bytes.now columns checked.0.items checked.1) }
 {
     let (words, verdict) = verdict_on_transcript(alloc, bytes)?;
-    let text = said(alloc, name, &words, bytes, verdict, columns)?;
-    Ok((text, verdict))
+    said(alloc, name, &words, bytes, verdict, columns)
 }
 
 /// Returns the verdict on a transcript, in words and as a value.
@@ -97,8 +96,7 @@ fn said_of_match_file(
     ensures { IfOk result (λ checked. IsMatchFileText name.now bytes.now columns checked.0.items checked.1) }
 {
     let (words, verdict) = verdict_on_match_file(alloc, bytes)?;
-    let text = said(alloc, name, &words, bytes, verdict, columns)?;
-    Ok((text, verdict))
+    said(alloc, name, &words, bytes, verdict, columns)
 }
 
 /// Returns the verdict on a match file, in words and as a value. The file is read under the first
@@ -131,8 +129,7 @@ pub fn said_of_import_fault(
     ensures { IfOk result (λ told. IsImportFaultText name.now bytes.now fault columns told.0.items told.1) }
 {
     let (words, verdict) = verdict_of_import_fault(alloc, fault)?;
-    let text = said(alloc, name, &words, bytes, verdict, columns)?;
-    Ok((text, verdict))
+    said(alloc, name, &words, bytes, verdict, columns)
 }
 
 /// Returns the report on a transcript with this name and these bytes, which gives no record because
@@ -150,8 +147,7 @@ pub fn said_of_transcript_fault(
     ensures { IfOk result (λ told. IsTranscriptFaultText name.now bytes.now fault columns told.0.items told.1) }
 {
     let (words, verdict) = verdict_of_transcript_fault(alloc, fault)?;
-    let text = said(alloc, name, &words, bytes, verdict, columns)?;
-    Ok((text, verdict))
+    said(alloc, name, &words, bytes, verdict, columns)
 }
 
 /// States that the report by the fault for which a transcript is refused is one on the transcript.

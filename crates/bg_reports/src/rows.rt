@@ -2,8 +2,9 @@
 ghost use Rattle.std.specs.Prelude.{◌≡◌, ◌++◌, Some, IfOk, OnOk};
 ghost use Rattle.bg_reports.specs.Check.{import_verdict, transcript_verdict};
 ghost use Rattle.bg_reports.specs.Rows.{AreMatchFileFields, AreTranscriptFields};
-ghost use Rattle.bg_reports.specs.Rows.{IsCheckRow, IsMatchFileRow, IsTranscriptRow, kind_row};
+ghost use Rattle.bg_reports.specs.Rows.{IsCheckRow, IsMatchFileRow, IsTranscriptRow, kind_row, line_of};
 ghost use Rattle.bg_reports.specs.Rows.{import_fault_fields, line_field, refused_fields, too_long_fields, transcript_fault_fields};
+ghost use Rattle.bg_text.specs.declared.judging.verdicts.Verdict.TheVariants.{Refused, TooLong};
 
 pub(crate) mod fields;
 mod matches;
@@ -85,15 +86,9 @@ fn transcript_fault_row(
 {
     match fault {
         TranscriptFault::Refused { line, why } => {
-            let verdict = Verdict::Refused(line);
-            let reason = why.reason();
-            let shown = refused_line(bytes, verdict);
-            Ok((
-                refused_row(alloc, form, line, reason.as_str(), shown)?,
-                verdict,
-            ))
+            refused_row(alloc, form, line, why.reason().as_str(), bytes)
         }
-        TranscriptFault::TooLong => Ok((too_long_row(alloc, form)?, Verdict::TooLong)),
+        TranscriptFault::TooLong => too_long_row(alloc, form),
         TranscriptFault::Memory => Err(AllocError),
     }
 }
@@ -141,15 +136,10 @@ fn import_fault_row(
 {
     match fault {
         ImportFault::Refused { line, why } => {
-            let verdict = Verdict::Refused(line);
             let reason = format!(in alloc; "{why}")?;
-            let shown = refused_line(bytes, verdict);
-            Ok((
-                refused_row(alloc, form, line, reason.as_str(), shown)?,
-                verdict,
-            ))
+            refused_row(alloc, form, line, reason.as_str(), bytes)
         }
-        ImportFault::TooLong => Ok((too_long_row(alloc, form)?, Verdict::TooLong)),
+        ImportFault::TooLong => too_long_row(alloc, form),
         ImportFault::Memory => Err(AllocError),
     }
 }
@@ -171,24 +161,26 @@ fn begun(
     Ok(row)
 }
 
-/// Returns what is told of a file with a line that is refused: its number, from 1, the reason, and
-/// its text.
+/// Returns what is told of a file whose line of this number, from 1, is refused for this reason:
+/// both, and the text of the line. Returns the verdict too.
 fn refused_row(
     alloc: Global,
     form: RowForm,
     number: u32,
     reason: &str,
-    line: &[u8],
-) -> Result<Vec<u8>, AllocError>
-    ensures { IfOk result (λ row. row.items ≡ refused_fields form number reason.now line.now) }
+    bytes: &[u8],
+) -> Result<(Vec<u8>, Verdict), AllocError>
+    ensures { IfOk result (λ told. (told.0.items ≡ refused_fields form number reason.now (line_of bytes.now number))
+        × (told.1 ≡ Refused number)) }
 {
+    let verdict = Verdict::Refused(number);
     let mut row = Vec::new(alloc);
     form.put_words(alloc, &mut row, "verdict", "refused")?;
     form.put_count(&mut row, "line", number.into())?;
     form.put_words(alloc, &mut row, "reason", reason)?;
-    put_line(alloc, form, &mut row, line)?;
+    put_line(alloc, form, &mut row, refused_line(bytes, verdict))?;
     form.put_unknown(&mut row, "\t\t\t\t\t\t\t\t\t\t\t\t")?;
-    Ok(row)
+    Ok((row, verdict))
 }
 
 /// Appends the text of a line that is refused.
@@ -203,14 +195,14 @@ fn put_line(alloc: Global, form: RowForm, out: &mut Vec<u8>, line: &[u8]) -> Res
     form.put_words(alloc, out, "text", text)
 }
 
-/// Returns what is told of a file that is too long.
-fn too_long_row(alloc: Global, form: RowForm) -> Result<Vec<u8>, AllocError>
-    ensures { IfOk result (λ row. row.items ≡ too_long_fields form) }
+/// Returns what is told of a file that is too long, and the verdict.
+fn too_long_row(alloc: Global, form: RowForm) -> Result<(Vec<u8>, Verdict), AllocError>
+    ensures { IfOk result (λ told. (told.0.items ≡ too_long_fields form) × (told.1 ≡ TooLong)) }
 {
     let mut row = Vec::new(alloc);
     form.put_words(alloc, &mut row, "verdict", "refused")?;
     form.put_unknown(&mut row, "\t")?;
     form.put_words(alloc, &mut row, "reason", "input too long")?;
     form.put_unknown(&mut row, "\t\t\t\t\t\t\t\t\t\t\t\t\t")?;
-    Ok(row)
+    Ok((row, Verdict::TooLong))
 }

@@ -10,7 +10,7 @@ use std::alloc::{AllocError, Global};
 /// Number of columns of a refused line that are shown where there is no screen, at most.
 pub const MOST_SHOWN: usize = 1000;
 
-/// Returns the report on a file with this name and a verdict in these words.
+/// Returns the report on a file with this name and a verdict in these words, and the verdict.
 pub(super) fn said(
     alloc: Global,
     name: &str,
@@ -18,8 +18,9 @@ pub(super) fn said(
     bytes: &[u8],
     verdict: Verdict,
     columns: Option<usize>,
-) -> Result<Vec<u8>, AllocError>
-    ensures { IfOk result (λ text. text.items ≡ printed_line name.now words.now verdict bytes.now columns) }
+) -> Result<(Vec<u8>, Verdict), AllocError>
+    ensures { IfOk result (λ told. (told.0.items ≡ printed_line name.now words.now verdict bytes.now columns)
+        × (told.1 ≡ verdict)) }
 {
     let mut text = Vec::from_slice(alloc, name.as_bytes())?;
     put_text(&mut text, ": ")?;
@@ -27,7 +28,7 @@ pub(super) fn said(
     let room = room_behind(columns, text.len());
     put_refused(alloc, &mut text, refused_line(bytes, verdict), room)?;
     put_text(&mut text, "\n")?;
-    Ok(text)
+    Ok((text, verdict))
 }
 
 /// Returns the line of a file that its verdict refuses; nothing where it refuses none.
