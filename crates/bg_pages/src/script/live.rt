@@ -3,7 +3,7 @@
 pub(crate) const TEXT: &str = r#"
 // ---- The socket: it comes back by itself. An action that was sent is sent again until it is
 // answered; it has the number of the entry that it is to become, so it acts once.
-let socket = null, pause = 500, beat = null, late = null;
+let socket = null, isGreeted = false, pause = 500, beat = null, late = null;
 
 // So many milliseconds an answer may take, and so many entries a match may have, before the page
 // says so; and so often a seat may be refused before it is given up.
@@ -18,10 +18,8 @@ function socketAddress() {
 
 function connect() {
   socket = new WebSocket(socketAddress());
-  socket.onopen = () => {
-    pause = 500;
-    if (isPlayer()) socket.send('hello ' + game.secret);
-  };
+  isGreeted = false;
+  socket.onopen = () => { if (isPlayer()) socket.send('hello ' + game.secret); };
   socket.onmessage = event => hear(JSON.parse(event.data));
   socket.onclose = () => {
     netSays('away, trying again', 'gone');
@@ -58,20 +56,25 @@ function hear(message) {
   if (message.here) { game.here = message.here; return draw(); }
   if (message.hello) return;
   if (message.re !== undefined) return hearAnswer(message);
-  if (message.no && isPlayer() && !game.match) hearNoSeat();
+  if (message.no && isPlayer() && !isGreeted) hearNoSeat();
 }
 
-// Another server may have made the match, or a new link, a moment ago: it is asked for again.
+// Another server may have made the match, or a new link, a moment ago: it is asked for again. A page
+// that had its seat may have lost it: the link was replaced, or the match deleted.
 function hearNoSeat() {
   game.refusals++;
   pause = 2000;
   game.refused = game.refusals >= REFUSALS;
-  say(game.refused ? 'This link is no seat of a match here.' : 'This link is no seat of a match here yet, trying again.');
+  const since = game.match ? ' any more' : game.refused ? '' : ' yet';
+  say(`This link is no seat of a match here${since}${game.refused ? '' : ', trying again'}.`);
+  draw();
 }
 
 function hearGreeting(message) {
   if (game.refusals) say('');
   game.refusals = 0;
+  isGreeted = true;
+  pause = 500;
   game.match = message.match;
   game.names = message.names;
   game.you = message.you;
@@ -118,15 +121,17 @@ function hearState(state) {
 }
 
 // The lines of all entries: the last ones come with each state, and the others are asked for once.
+// A text that comes late has fewer lines than the page has meanwhile.
 async function takeLines(state) {
   const first = state.number - state.last.length;
   if (game.lines.length >= first) {
     game.lines = game.lines.slice(0, first).concat(state.last);
     return;
   }
-  const answer = await fetch(`/matches/${game.match}/transcript`);
-  if (!answer.ok) return;
-  game.lines = (await answer.text()).split('\n').slice(1).filter(line => line);
+  const text = await fetched(`/matches/${game.match}/transcript`, 'text');
+  const lines = (text || '').split('\n').slice(1).filter(line => line);
+  if (lines.length < game.lines.length) return;
+  game.lines = lines;
   drawMoves();
 }
 

@@ -15,7 +15,10 @@ const nameOf = player => game.names[player === 'X' ? 0 : 1] || (player === 'X' ?
 const sideOf = () => game.you || 'X';
 const isLive = () => game.earlier === null;
 const isMyMove = () => isLive() && game.state && game.state.may && game.state.may.includes('move');
-const mayMove = () => isMyMove() && !game.open;
+// Who has a seat acts on the newest position alone, and by one action at a time.
+const isSeated = () => isLive() && game.you !== '' && !game.refused;
+const mayAct = () => isSeated() && !game.open;
+const mayMove = () => isMyMove() && mayAct();
 
 // The points where the checkers of the last move have come to stand, in the numbers of the side
 // from which one looks.
@@ -136,7 +139,7 @@ function draw() {
   fill(byId('home'), ...playerLine(state, side));
   byId('phase').textContent = phaseWords(state) + (state.crawford && !state.winner ? ' · Crawford game' : '');
   byId('title').textContent = `${nameOf('X')} – ${nameOf('O')}, to ${state.length} point${state.length > 1 ? 's' : ''}, game ${state.game}`;
-  fill(byId('acts'), ...(isLive() && game.you ? actionButtons(game.state) : []));
+  fill(byId('acts'), ...(isSeated() ? actionButtons(game.state) : []));
   if (game.open) byId('acts').querySelectorAll('button').forEach(made => { made.disabled = true; });
   byId('words').textContent = [phaseWords(state), boardWords(state.x, nameOf('X')), boardWords(state.o, nameOf('O')),
     `Cube: ${state.cube.value}${state.cube.owner ? ', owned by ' + nameOf(state.cube.owner) : ''}.`].join(' ');
@@ -172,10 +175,11 @@ document.addEventListener('pointerup', event => {
 
 document.addEventListener('keydown', event => {
   if (!game.state || event.ctrlKey || event.altKey || event.metaKey || /INPUT|SELECT|TEXTAREA/.test(event.target.tagName)) return;
+  if (byId('ask').open) return;
   const may = game.state.may || [], key = event.key;
   if (key === 'Escape' && game.from !== null) { game.from = null; draw(); }
-  else if (key === 'u') undo();
-  else if (key === 'r' && may.includes('roll') && !game.open) act('roll');
+  else if (key === 'u' && mayAct()) undo();
+  else if (key === 'r' && mayAct() && may.includes('roll')) act('roll');
   else if (key === 'ArrowLeft') stepTo(currentNumber() - 1);
   else if (key === 'ArrowRight') stepTo(currentNumber() + 1);
   else if (key === 'End') stepTo(Infinity);
@@ -192,8 +196,7 @@ async function stepTo(number) {
     game.asked++;
     game.earlier = null;
   } else {
-    const asked = ++game.asked, answer = await fetch(`/matches/${game.match}/states/${wanted}`);
-    const earlier = answer.ok ? await answer.json() : null;
+    const asked = ++game.asked, earlier = await fetched(`/matches/${game.match}/states/${wanted}`, 'json');
     if (!earlier || asked !== game.asked) return;
     game.earlier = earlier;
   }

@@ -1,4 +1,4 @@
-//! What all parts of the script use: elements, texts and sounds.
+//! What all parts of the script use: elements, texts, sounds and requests.
 
 pub(crate) const TEXT: &str = r#"'use strict';
 // The script of all pages of this server. It keeps nothing, and loads nothing from elsewhere.
@@ -33,6 +33,16 @@ function fill(place, ...inside) {
 
 function button(words, act, kind) {
   return element('button', { type: 'button', class: kind || '', click: act }, words);
+}
+
+// What a path of the server has, read as `kind` says: null where it has none, or its answer is lost.
+async function fetched(path, kind) {
+  try {
+    const answer = await fetch(path);
+    return answer.ok ? await answer[kind]() : null;
+  } catch (lost) {
+    return null;
+  }
 }
 
 const other = player => player === 'X' ? 'O' : 'X';
