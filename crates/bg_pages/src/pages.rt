@@ -41,7 +41,7 @@ const HOME_PAGE: &str = r#"<!DOCTYPE html>
 <label>Turns without a move <select id="rules"><option value="1">a click passes (first rules)</option><option value="2">pass at once (second rules)</option></select></label>
 <label>Name of X <input id="x" maxlength="40" autocomplete="off"></label>
 <label>Name of O <input id="o" maxlength="40" autocomplete="off"></label>
-<button class="main">Make the match</button>
+<button class="main" autocomplete="off">Make the match</button>
 </form>
 <div id="made" aria-live="polite"></div>
 </section>

@@ -3,32 +3,49 @@
 pub(crate) const TEXT: &str = r#"
 // ---- The page of all matches.
 const MOST_TRIES = 5;
-const lists = { live: { page: 1, search: '' }, idle: { page: 1, search: '' }, finished: { page: 1, search: '' } };
+// Of each list which page of which search is wanted, how often it was asked for, and which of these
+// requests is shown: the answer to an earlier one that comes late is not.
+const newList = () => ({ page: 1, search: '', asked: 0, shown: 0 });
+const lists = { live: newList(), idle: newList(), finished: newList() };
 
-// Asks for a match, and asks again where no answer comes. By its key the server knows that it is
-// the same match.
-async function askForMatch(wanted) {
-  const key = Array.from(crypto.getRandomValues(new Uint8Array(16)), byte => byte.toString(16).padStart(2, '0')).join('');
-  const request = {
-    method: 'POST', headers: { 'content-type': 'application/json', 'idempotency-key': key }, body: JSON.stringify(wanted),
-  };
-  for (let tries = 1; tries < MOST_TRIES; tries++) {
+// The match that is asked for, until its links are there. By its key the server knows that it is the
+// same one, also where the button is pressed again since no answer came.
+let wantedMatch = { body: '', key: '' };
+
+const newKey = () =>
+  Array.from(crypto.getRandomValues(new Uint8Array(16)), byte => byte.toString(16).padStart(2, '0')).join('');
+
+// Asks for a match, and asks again where no answer comes. Returns its links, or why there are none.
+async function askForMatch(body) {
+  if (body !== wantedMatch.body) wantedMatch = { body, key: newKey() };
+  const headers = { 'content-type': 'application/json', 'idempotency-key': wantedMatch.key };
+  for (let tries = 0; tries < MOST_TRIES; tries++) {
     try {
-      return await fetch('/matches', request);
+      const answer = await fetch('/matches', { method: 'POST', headers, body });
+      if (!answer.ok) return { why: 'Refused: ' + await answer.text() };
+      const made = await answer.json();
+      wantedMatch = { body: '', key: '' };
+      return made;
     } catch (lost) {
       await new Promise(go => setTimeout(go, 1000));
     }
   }
-  return fetch('/matches', request);
+  return { why: 'No answer came: try again.' };
 }
 
 async function makeMatch(event) {
   event.preventDefault();
-  const value = id => byId(id).value;
+  const value = id => byId(id).value, making = byId('new').querySelector('button');
   const wanted = { length: Number(value('length')), rules: Number(value('rules')), x: value('x').trim(), o: value('o').trim() };
-  const answer = await askForMatch(wanted);
-  if (!answer.ok) return fill(byId('made'), element('p', { role: 'alert' }, 'Refused: ' + await answer.text()));
-  const made = await answer.json();
+  making.disabled = true;
+  const made = await askForMatch(JSON.stringify(wanted));
+  making.disabled = false;
+  if (made.why) return fill(byId('made'), element('p', { role: 'alert' }, made.why));
+  showLinks(wanted, made);
+  refresh();
+}
+
+function showLinks(wanted, made) {
   const row = (words, path) => element('p', { class: 'link' }, element('span', {}, words),
     element('a', { href: path }, location.origin + path), copying(location.origin + path));
   fill(byId('made'), element('h2', {}, 'Your match is ready'),
@@ -38,7 +55,6 @@ async function makeMatch(event) {
     element('p', { class: 'none' }, 'The dice are made of a secret, which is told when the match is over. Its SHA‑256 is ',
       element('code', {}, made.dice), ' ', copying(made.dice)));
   byId('made').querySelector('a').focus();
-  refresh();
 }
 
 function matchRow(found) {
@@ -57,10 +73,10 @@ function matchRow(found) {
 }
 
 async function refreshList(kind) {
-  const list = lists[kind], query = new URLSearchParams({ list: kind, page: list.page, search: list.search });
-  const answer = await fetch('/matches?' + query);
-  if (!answer.ok) return;
-  const found = await answer.json();
+  const list = lists[kind], { page, search } = list, asked = ++list.asked;
+  const found = await fetched('/matches?' + new URLSearchParams({ list: kind, page, search }), 'json');
+  if (!found || asked < list.shown) return;
+  list.shown = asked;
   const head = element('tr', {}, ...['Match', 'To', 'Score', 'Stands', ''].map(words => element('th', { scope: 'col' }, words)));
   const pages = found.pages < 2 ? [] : [
     button('◀', () => turnPage(kind, -1, found.pages)), ` page ${found.page} of ${found.pages} `,
@@ -68,9 +84,9 @@ async function refreshList(kind) {
   ];
   const place = byId(kind);
   if (kind === 'idle') byId('idlers').hidden = !found.count;
-  if (!found.count) return fill(place, element('p', { class: 'none' }, list.search ? 'Nothing found.' : 'None yet.'));
+  if (!found.count) return fill(place, element('p', { class: 'none' }, search ? 'Nothing found.' : 'None yet.'));
   fill(place, element('table', {}, element('thead', {}, head), element('tbody', {}, ...found.matches.map(matchRow))),
-    element('p', { class: 'pages' }, ...pages), kind === 'finished' ? downloads(list.search, found) : null);
+    element('p', { class: 'pages' }, ...pages), kind === 'finished' ? downloads(search, found) : null);
 }
 
 // The matches that were found, to be downloaded.
@@ -86,9 +102,9 @@ async function download(form, search, pages, said) {
   const parts = [];
   for (let page = 1; page <= pages; page += 1) {
     said.textContent = pages > 1 ? `${page} of ${pages}` : '';
-    const answer = await fetch('/matches?' + new URLSearchParams({ list: 'finished', form, page, search }));
-    if (!answer.ok) return void (said.textContent = 'Not downloaded: try again.');
-    const bytes = await answer.arrayBuffer();
+    const query = new URLSearchParams({ list: 'finished', form, page, search });
+    const bytes = await fetched('/matches?' + query, 'arrayBuffer');
+    if (!bytes) return void (said.textContent = 'Not downloaded: try again.');
     parts.push(page < pages ? bytes.slice(0, -1024) : bytes);
   }
   const path = URL.createObjectURL(new Blob(parts, { type: 'application/x-tar' }));
@@ -111,7 +127,7 @@ function refresh() {
 function startHome() {
   byId('new').addEventListener('submit', makeMatch);
   byId('search').addEventListener('input', () => {
-    lists.finished = { page: 1, search: byId('search').value.trim() };
+    Object.assign(lists.finished, { page: 1, search: byId('search').value.trim() });
     refreshList('finished');
   });
   refresh();
