@@ -135,6 +135,11 @@ class Page:
         for kind in ("mouseMoved", "mousePressed", "mouseReleased"):
             self.call("Input.dispatchMouseEvent", type=kind, x=place[0], y=place[1], button="left", clickCount=1)
 
+    def press(self, key):
+        """Presses a key of the keyboard, and lets it go."""
+        for kind in ("keyDown", "keyUp"):
+            self.call("Input.dispatchKeyEvent", type=kind, key=key)
+
     def picture(self, path):
         """Writes what the tab shows to a PNG file."""
         with open(path, "wb") as file:
