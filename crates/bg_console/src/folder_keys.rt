@@ -1,22 +1,35 @@
 //! The keys in a folder: a secret that they are derived from, or the key files of all parties.
 
-use crate::handed_files::key_file_of;
-use crate::messages::{no_memory, wrong};
+use crate::handed_files::{UNREAD, key_file_of};
+use crate::messages::{failed_with, no_memory, wrong};
 use bg_reports::Ending;
 use bg_system::{KeyFile, KeyFiles, MatchFile, Printable, name_of_key_file};
 use bg_wire::{FIRST_WATCHER, SEAT_OF_O, SEAT_OF_X};
 use std::fs;
+use std::io::ErrorKind;
 
 /// What to do with a key file of another match.
 const OTHER_MATCH: &str = "put the file of this match in its place, or name another folder";
 
+/// What to do if the system can't tell whether keys are there: nobody makes new ones then.
+const UNSEEN: &str = "let the process read it: new keys would make the old ones useless";
+
 /// Returns whether a referee's folder has a secret that its keys are derived from. Ends with
-/// `Failed` where memory runs out.
+/// `Failed` where that can't be seen, or memory runs out.
 pub fn has_key_secret(rt: &HostRuntime, folder: &str) -> Result<bool, Ending> {
     let Ok(path) = format!(in rt.alloc(); "{folder}/key-secret") else {
         return Err(no_memory(rt));
     };
-    Ok(fs::symlink_metadata(rt, path.as_str()).is_ok())
+    is_there(rt, path.as_str())
+}
+
+/// Returns whether there is a file at a path. Ends with `Failed` where that can't be seen.
+fn is_there(rt: &HostRuntime, path: &str) -> Result<bool, Ending> {
+    match fs::symlink_metadata(rt, path) {
+        Ok(_) => Ok(true),
+        Err(error) if error.kind() == ErrorKind::NotFound => Ok(false),
+        Err(error) => Err(failed_with(rt, path, UNREAD, &error, UNSEEN)),
+    }
 }
 
 /// Returns the key files in a referee's folder without a secret of keys, or `None` if it has no key
@@ -83,7 +96,7 @@ fn found_in(
     let Ok(path) = format!(in rt.alloc(); "{folder}/{}", name_of_key_file(party)) else {
         return Err(no_memory(rt));
     };
-    if fs::symlink_metadata(rt, path.as_str()).is_err() {
+    if !is_there(rt, path.as_str())? {
         return Ok(None);
     }
     Ok(Some(key_file_in(rt, folder, table, party)?))

@@ -11,7 +11,7 @@ use std::{fs, io};
 const NO_NAME: &str = "the name of a file is empty";
 
 /// The message on a file that can't be read.
-const UNREAD: &str = " could not be read";
+pub(crate) const UNREAD: &str = " could not be read";
 
 /// The message on a key file of the watchers, where a seat's is asked for.
 const OF_NO_SEAT: &str =
