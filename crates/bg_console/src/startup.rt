@@ -4,10 +4,11 @@ use crate::messages::says::say_of;
 use crate::messages::{failed, failed_or, failed_with, no_memory, wrong, wrong_at, wrong_for};
 use bg_reports::Ending;
 use bg_system::{FolderLock, Printable, Ticking, Waiting};
-use std::fs::{DirBuilder, TryLockError};
+use std::fs::{DirBuilder, File, TryLockError};
 use std::io::ErrorKind;
 use std::os::fd::RawFd;
 use std::os::unix::fs::{DirBuilderExt, MetadataExt};
+use std::path::Path;
 use std::{fs, io};
 
 /// The messages on a folder that can't be locked, made or used, with what to do.
@@ -45,10 +46,12 @@ pub fn lock_of(rt: &HostRuntime, folder: &str) -> Result<FolderLock, Ending> {
 /// The mode of a folder that only its owner reads, writes and enters, whatever the umask.
 const OWNER_ALONE: u32 = 0o700;
 
-/// Creates a folder for its owner alone where there is none, with its parents, and locks it.
-/// Returns the lock. Warns where an existing folder is open to others. Ends with `WrongArguments`
-/// where there is none and none can be created, and otherwise as [`lock_of`].
+/// Creates a folder for its owner alone where there is none, with its parents, and locks it. The
+/// names of new folders last through a cut of the power, where the system lets the folders above be
+/// opened. Returns the lock. Warns where an existing folder is open to others. Ends with
+/// `WrongArguments` where there is none and none can be created, and otherwise as [`lock_of`].
 pub fn own_folder(rt: &HostRuntime, folder: &str) -> Result<FolderLock, Ending> {
+    let missing = missing_folders(rt, folder);
     let made = DirBuilder::new()
         .recursive(true)
         .mode(OWNER_ALONE)
@@ -60,9 +63,35 @@ pub fn own_folder(rt: &HostRuntime, folder: &str) -> Result<FolderLock, Ending> 
         // An empty path creates nothing.
         _ => check_folder(rt, folder, " is no folder: give another --dir")?,
     }
+    sync_above(rt, folder, missing);
     let lock = lock_of(rt, folder)?;
     tell_if_open(rt, folder);
     Ok(lock)
+}
+
+/// Returns how many folders are missing at a path: the folder, and those above it.
+fn missing_folders(rt: &HostRuntime, folder: &str) -> usize {
+    let mut missing = 0usize;
+    for path in Path::new(folder).ancestors() {
+        if path.as_str().is_empty() || fs::metadata(rt, path.as_str()).is_ok() {
+            break;
+        }
+        missing = missing.saturating_add(1);
+    }
+    missing
+}
+
+/// Syncs so many folders above a folder, the nearest first.
+fn sync_above(rt: &HostRuntime, folder: &str, count: usize) {
+    for above in Path::new(folder).ancestors().skip(1).take(count) {
+        let above = match above.as_str() {
+            "" => ".",
+            named => named,
+        };
+        if let Ok(opened) = File::open(rt, above) {
+            let _ = opened.sync_all();
+        }
+    }
 }
 
 /// The bits of a mode by which others than the owner may read, write or enter.
@@ -102,10 +131,20 @@ pub fn check_writable(rt: &HostRuntime, folder: &str) -> Result<(), Ending> {
     let Ok(trial) = format!(in rt.alloc(); "{folder}/{TRIAL}") else {
         return Err(no_memory(rt));
     };
-    match DirBuilder::new()
+    // Where one is left, creating it fails for that reason alone.
+    check_allowed(rt, folder, fs::remove_dir(rt, trial.as_str()))?;
+    let made = DirBuilder::new()
         .mode(OWNER_ALONE)
-        .create(rt, trial.as_str())
-    {
+        .create(rt, trial.as_str());
+    check_allowed(rt, folder, made)?;
+    let _ = fs::remove_dir(rt, trial.as_str());
+    Ok(())
+}
+
+/// Refuses a folder where the process may not do what it has tried. Other reasons, such as a full
+/// disk, may pass; a failed save is reported.
+fn check_allowed(rt: &HostRuntime, folder: &str, attempt: io::Result<()>) -> Result<(), Ending> {
+    match attempt {
         Err(error)
             if matches!(
                 error.kind(),
@@ -118,11 +157,7 @@ pub fn check_writable(rt: &HostRuntime, folder: &str) -> Result<(), Ending> {
                 &error,
             ))
         }
-        // Other reasons, such as a full disk, may pass; a failed save is reported.
-        _ => {
-            let _ = fs::remove_dir(rt, trial.as_str());
-            Ok(())
-        }
+        _ => Ok(()),
     }
 }
 
