@@ -1,5 +1,6 @@
 -- What a message says.
-use Rattle.std.specs.Prelude.{◌≡◌, ◌≤◌, ℕ, List, ◌++◌, ◌∷◌, codes, length}
+use Rattle.std.specs.Prelude.{◌≡◌, ◌≤◌, ◌<◌, ◌^◌, ℕ, List, ◌++◌, ◌∷◌, codes, length}
+use Rattle.std.specs.Fmt.{decimal}
 use Rattle.bg_requests.specs.declared.messages.Message.{Message}
 use Rattle.bg_requests.specs.declared.messages.Message.TheVariants as messages
 
@@ -7,14 +8,27 @@ use Rattle.bg_requests.specs.declared.messages.Message.TheVariants as messages
 abbrev pub most_message : ℕ
 most_message = 512
 
--- the words of an action stand behind a number and a blank
-abbrev pub IsActOf : List ℕ → List ℕ → Type 0
-IsActOf text words = (digits : List ℕ) × (text ≡ digits ++ 32 ∷ words)
+-- the text is the number in decimal digits, a blank (32), and the words
+abbrev pub IsActOf : List ℕ → ℕ → List ℕ → Type 0
+IsActOf text number words = (text ≡ decimal number ++ 32 ∷ words) × (number < 2 ^ 32)
+
+-- the text is a number and words
+abbrev pub IsAct : List ℕ → Type 0
+IsAct text = (number : ℕ) × (words : List ℕ) × IsActOf text number words
 
 -- the message says this, and is not too long
 abbrev pub Says : List ℕ → Message → Type 0
 Says text (messages.Hello secret) = (length text ≤ most_message) × (text ≡ codes "hello " ++ secret.now)
 Says text (messages.Act number words) =
     (length text ≤ most_message)
-    × ((rest : List ℕ) × IsActOf rest words.now × (text ≡ codes "act " ++ rest))
+    × ((rest : List ℕ) × IsActOf rest number words.now × (text ≡ codes "act " ++ rest))
 Says text messages.Unknown = Unit {0}
+
+-- the server knows what is said
+abbrev pub IsKnown : Message → Type 0
+IsKnown messages.Unknown = ⊥
+IsKnown message = Unit {0}
+
+-- the message says something that the server knows
+abbrev pub SaysSome : List ℕ → Type 0
+SaysSome text = (message : Message) × IsKnown message × Says text message

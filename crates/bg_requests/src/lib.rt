@@ -8,6 +8,7 @@
 #![tactic(auto)]
 
 mod messages;
+mod numbers;
 mod orders;
 mod seats;
 mod targets;

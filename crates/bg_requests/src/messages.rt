@@ -1,6 +1,8 @@
 //! What a peer says over its socket, or by a request (docs/SERVING.md, "Sockets" and "Scripts").
-ghost use Rattle.std.specs.Prelude.{IfSome};
-ghost use Rattle.bg_requests.specs.Messages.{IsActOf, Says};
+ghost use Rattle.std.specs.Prelude.{IfSome, IsSome};
+ghost use Rattle.bg_requests.specs.Messages.{IsAct, IsActOf, IsKnown, Says, SaysSome};
+
+use crate::numbers::number_of;
 
 /// Number of bytes of a message, at most. A longer one is `Unknown`.
 pub const MOST_MESSAGE: usize = 512;
@@ -19,7 +21,8 @@ pub enum Message<'a> {
 /// Returns what a message says: `hello SECRET` or `act NUMBER WORDS`. Any other text, and one of
 /// more than 512 bytes, is `Unknown`.
 pub fn parse_message(text: &str) -> Message<'_>
-    ensures { Says text.now result }
+    ensures said { Says text.now result }
+    ensures total { SaysSome text.now → IsKnown result }
 {
     if text.len() > MOST_MESSAGE {
         return Message::Unknown;
@@ -36,15 +39,13 @@ pub fn parse_message(text: &str) -> Message<'_>
     }
 }
 
-/// Returns the number and the words of `NUMBER WORDS`, and `None` if the text has another form.
+/// Returns the number and the words of `NUMBER WORDS`, and `None` if the text has another form: the
+/// number is plain digits, with neither a sign nor a zero before others.
 pub fn parse_act(text: &str) -> Option<(u32, &str)>
-    ensures { IfSome result (λ act. IsActOf text.now act.1.now) }
+    ensures said { IfSome result (λ act. IsActOf text.now act.0 act.1.now) }
+    ensures total { IsAct text.now → IsSome result }
 {
-    let Some((digits, words)) = text.split_once(' ') else {
-        return None;
-    };
-    match digits.parse::<u32>() {
-        Ok(number) => Some((number, words)),
-        Err(_) => None,
-    }
+    let (digits, words) = text.split_once(' ')?;
+    let number = number_of(digits)?;
+    Some((number, words))
 }

@@ -1,11 +1,10 @@
 //! Which part of the server a path names.
-ghost use Rattle.std.specs.Prelude.{◌≡◌, ℕ, ◌^◌, ◌<◌, IfSome, IsSome, IsTrue};
-ghost use Rattle.std.specs.Fmt.{decimal};
+ghost use Rattle.std.specs.Prelude.{◌≡◌, IfSome, IsSome, IsTrue};
 ghost use Rattle.std.specs.List.{list_all};
 ghost use Rattle.bg_requests.specs.Targets.{IsFound, IsNamedBehind, IsNamedBy, IsOfMatch, IsPlainWord, IsWord, IsWordOf};
 ghost use Rattle.bg_requests.specs.Targets.{NamesSome, NamesSomeBehind, may_be_in_name, may_name};
 
-use itoa::Buffer;
+use crate::numbers::number_of;
 
 /// A part of a match, as the end of a path names it.
 #[derive(Clone, Copy, Debug, PartialEq, Eq)]
@@ -101,7 +100,7 @@ fn part_named(word: &str) -> Option<Part>
     ensures total { IsWord word.now → IsSome result }
 {
     match word.strip_prefix("states/") {
-        Some(digits) => count_of(digits).map(Part::StateAfter),
+        Some(digits) => number_of(digits).map(Part::StateAfter),
         None => plain_part(word),
     }
 }
@@ -122,21 +121,6 @@ fn plain_part(word: &str) -> Option<Part>
         "live" => Some(Part::Live),
         _ => None,
     }
-}
-
-/// Returns the number that these digits are, from 0 to 4294967295. Returns `None` if there is a
-/// sign, or a zero before other digits.
-fn count_of(digits: &str) -> Option<u32>
-    ensures said { IfSome result (λ count. digits.now ≡ decimal count) }
-    ensures total { (count : ℕ) → count < 2 ^ 32 → digits.now ≡ decimal count → IsSome result }
-{
-    let Ok(count) = digits.parse::<u32>() else {
-        return None;
-    };
-    if Buffer::new().format(count) != digits {
-        return None;
-    }
-    Some(count)
 }
 
 /// The most bytes of a match's name.
