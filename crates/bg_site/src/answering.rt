@@ -12,6 +12,7 @@ use bg_pages::{
 use bg_requests::{Part, Target, target_of};
 use bg_world::Keeper;
 use bytes::Bytes;
+use http::header::{ALLOW, HeaderValue};
 use http::{Request, StatusCode};
 use http_server::{Response, Service};
 use std::alloc::AllocError;
@@ -56,9 +57,9 @@ impl<K: Keeper + Drop, S: Store<K> + Drop> Site<K, S> {
                 StatusCode::FORBIDDEN,
                 "this comes from a page of another site\n",
             ),
-            _ => refuse(
+            _ => not_allowed(
                 response,
-                StatusCode::METHOD_NOT_ALLOWED,
+                HeaderValue::from_static("GET, HEAD, POST"),
                 "only GET, HEAD and POST are supported\n",
             ),
         }
@@ -109,11 +110,8 @@ impl<K: Keeper + Drop, S: Store<K> + Drop> Site<K, S> {
             Part::Live => return self.upgrade(request, Some(index), response),
             Part::Dice => return self.answer_dice(index, response),
             Part::Actions => {
-                return refuse(
-                    response,
-                    StatusCode::METHOD_NOT_ALLOWED,
-                    "actions are posted\n",
-                );
+                let post = HeaderValue::from_static("POST");
+                return not_allowed(response, post, "actions are posted\n");
             }
             Part::State => Asked::State(None),
             Part::StateAfter(count) => Asked::StateAfter(count),
@@ -134,13 +132,23 @@ impl<K: Keeper + Drop, S: Store<K> + Drop> Site<K, S> {
             Target::Matches => self.make(request, response),
             Target::Of(name, Part::Actions) => self.act_by_request(request, name, response),
             Target::Nothing => missing(response),
-            _ => refuse(
+            _ => not_allowed(
                 response,
-                StatusCode::METHOD_NOT_ALLOWED,
+                HeaderValue::from_static("GET, HEAD"),
                 "this address does not take POST\n",
             ),
         }
     }
+}
+
+/// Answers that this address takes only these methods.
+fn not_allowed(
+    response: &mut Response,
+    methods: HeaderValue,
+    words: &'static str,
+) -> Result<(), AllocError> {
+    response.add_header(ALLOW, methods)?;
+    refuse(response, StatusCode::METHOD_NOT_ALLOWED, words)
 }
 
 /// Answers that there is nothing at this path.

@@ -88,6 +88,9 @@ def refuse_requests(server, name, seat):
             ("/matches/none", None, {}, 404), ("/play/live", None, {}, 426)):
         answer = server.ask(path, body, headers)
         right(answer[0] == status, f"{path} {body and body[:20]} came to {answer[0]}")
+    for path, body, methods in ((actions, None, "POST"), ("/play", b"", "GET, HEAD")):
+        status, headers, _ = server.ask(path, body, {})
+        right(status == 405 and headers["allow"] == methods, f"{path} came to {status}, allow {headers['allow']}")
     refused = server.ask("/matches", b'{"length":3,"name_x":"Anna"}', JSON)[2].decode()
     right('"name_x"' in refused and all(f'"{key}"' in refused for key in ("length", "rules", "x", "o")),
           f"a wrong key is refused by {refused}")
