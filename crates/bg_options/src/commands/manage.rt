@@ -69,9 +69,9 @@ fn wanted_in<'a>(options: &ArgMatches<'a>) -> Option<Management<'a>> {
         flag(options, SHOW.name, Management::Show),
         flag(options, DELETE.name, Management::Delete),
         flag(options, FORGET_NAMES.name, Management::ForgetNames),
-        player_in(options, NEW_LINK.name).map(Management::NewLink),
-        options.get_str(BACKUP.name).map(Management::Backup),
-        options.get_str(RESTORE.name).map(Management::Restore),
+        new_link_in(options),
+        backup_in(options),
+        restore_in(options),
     ];
     let mut wanted = None;
     for one in found {
@@ -87,6 +87,21 @@ fn wanted_in<'a>(options: &ArgMatches<'a>) -> Option<Management<'a>> {
 /// Returns what a flag asks for, if it is given.
 fn flag<'a>(options: &ArgMatches<'a>, name: &str, asked: Management<'a>) -> Option<Management<'a>> {
     options.get_flag(name).then_some(asked)
+}
+
+/// Returns which seat is to have a new link, if one is.
+fn new_link_in<'a>(options: &ArgMatches<'a>) -> Option<Management<'a>> {
+    Some(Management::NewLink(player_in(options, NEW_LINK.name)?))
+}
+
+/// Returns where all matches are to be copied, if they are.
+fn backup_in<'a>(options: &ArgMatches<'a>) -> Option<Management<'a>> {
+    Some(Management::Backup(options.get_str(BACKUP.name)?))
+}
+
+/// Returns from where matches are to be copied back, if they are.
+fn restore_in<'a>(options: &ArgMatches<'a>) -> Option<Management<'a>> {
+    Some(Management::Restore(options.get_str(RESTORE.name)?))
 }
 
 const FOLDER: Argument = Argument {
