@@ -71,6 +71,11 @@ pub(crate) fn not_begun(rt: &HostRuntime, port: u16, database: &str, why: Unusab
                 "port {port} is taken: end the process that has it, or name another by --port"
             ),
         ),
+        // The port may be what it has no right to, and `ls -ld` says nothing of that.
+        Unusable::File(error) if error.kind() == ErrorKind::PermissionDenied => failed(
+            rt,
+            format_args!("the matches can't be served: {error}{FOLDER_AND_PORT}"),
+        ),
         Unusable::File(error) => {
             failed_or(rt, "the matches can't be served", &error, FOLDER_AND_PORT)
         }
