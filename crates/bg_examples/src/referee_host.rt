@@ -43,7 +43,7 @@ pub struct RefereeHost<'a, R> {
 /// Returns the referee that the files restore.
 fn restored<R: Files<File = File> + AllocGlobal>(
     rt: &R,
-    files: &SlotFiles<'_, R>,
+    files: &mut SlotFiles<'_, R>,
     id: u64,
     length: u8,
     rules: Rules,
@@ -71,8 +71,8 @@ impl<'a, R: Net + Files<File = File> + RandomSource + AllocGlobal> RefereeHost<'
         length: u8,
         rules: Rules,
     ) -> Result<RefereeHost<'a, R>, HostFault> {
-        let files = SlotFiles::open(rt, folder, REFEREE)?;
-        let core = restored(rt, &files, id, length, rules)?;
+        let mut files = SlotFiles::open(rt, folder, REFEREE)?;
+        let core = restored(rt, &mut files, id, length, rules)?;
         let socket = UdpSocket::bind(rt, (Ipv4Addr::LOCALHOST, port))?;
         // A turn waits no longer than this.
         socket.set_read_timeout(Some(Duration::from_millis(200)))?;

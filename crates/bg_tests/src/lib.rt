@@ -19,4 +19,8 @@ mod match_files;
 #[cfg(test)]
 mod random_runs;
 #[cfg(test)]
+mod slot_files;
+#[cfg(test)]
+mod stand_ins;
+#[cfg(test)]
 mod uses;
