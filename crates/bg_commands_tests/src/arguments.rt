@@ -1,7 +1,7 @@
 //! What the words of each command ask for.
 mod requests;
 
-use crate::checks::check;
+use crate::checks::{check, check_said};
 use crate::command_lines::check_refused;
 use crate::lasting::{lasting, lasting_text};
 use bg_options::{Request, RequestFault, command_line};
@@ -102,30 +102,30 @@ fn check_words(rt: &(impl AllocGlobal + Abort)) {
     }
 }
 
-/// Commands, and words that name a file to each.
-const MISPLACED: &[(&str, &str)] = &[
-    ("judge", "judge|file"),
-    ("import", "import|file"),
-    ("export", "export|file"),
-    ("page", "page|file"),
-    ("picture", "picture|file"),
+/// Each command line is refused for its fault.
+fn check_faults(rt: &(impl AllocGlobal + Abort), rows: &[(&str, RequestFault)]) {
+    for (words, fault) in rows {
+        check_fault(rt, words, *fault);
+    }
+}
+
+/// Words that name a file to a command.
+const MISPLACED: [(&str, RequestFault); 5] = [
+    ("judge|file", RequestFault::MisplacedFile("judge")),
+    ("import|file", RequestFault::MisplacedFile("import")),
+    ("export|file", RequestFault::MisplacedFile("export")),
+    ("page|file", RequestFault::MisplacedFile("page")),
+    ("picture|file", RequestFault::MisplacedFile("picture")),
 ];
 
 /// A file that is named to a command which reads the standard input is said where it belongs.
 #[test]
 fn misplaced_files(rt: HostRuntime) {
-    check_misplaced(&rt);
-}
-
-/// Each command says where its file belongs.
-fn check_misplaced(rt: &(impl AllocGlobal + Abort)) {
-    for (name, words) in MISPLACED {
-        check_fault(rt, words, RequestFault::MisplacedFile(*name));
-    }
+    check_faults(&rt, &MISPLACED);
 }
 
 /// Words of batches, and what is at fault in each.
-const BATCHES: &[(&str, RequestFault)] = &[
+const BATCHES: [(&str, RequestFault); 3] = [
     ("import|--out|d", RequestFault::NoFiles),
     ("export|--out|d", RequestFault::NoFiles),
     ("import|--out|d|--headers|h|a", RequestFault::HeadersOfMany),
@@ -134,36 +134,31 @@ const BATCHES: &[(&str, RequestFault)] = &[
 /// Options for files and a folder that don't fit are said.
 #[test]
 fn batches_that_are_refused(rt: HostRuntime) {
-    check_batches(&rt);
+    check_faults(&rt, &BATCHES);
 }
 
-/// Each command line has its fault.
-fn check_batches(rt: &(impl AllocGlobal + Abort)) {
-    for (words, fault) in BATCHES {
-        check_fault(rt, words, *fault);
-    }
-}
-
-/// Options for headers, and words that give an empty one.
-const HEADERS: &[(&str, &str)] = &[
-    ("x", "export|--x="),
-    ("o", "export|--o="),
-    ("date", "export|--date="),
-    ("event", "export|--event="),
-    ("place", "export|--place="),
+/// Words that give an empty header.
+const HEADERS: [(&str, RequestFault); 5] = [
+    ("export|--x=", RequestFault::Name("x", NameFault::Length)),
+    ("export|--o=", RequestFault::Name("o", NameFault::Length)),
+    (
+        "export|--date=",
+        RequestFault::Name("date", NameFault::Length),
+    ),
+    (
+        "export|--event=",
+        RequestFault::Name("event", NameFault::Length),
+    ),
+    (
+        "export|--place=",
+        RequestFault::Name("place", NameFault::Length),
+    ),
 ];
 
 /// A text above a match is as clean as a name.
 #[test]
 fn headers_that_are_refused(rt: HostRuntime) {
-    check_headers(&rt);
-}
-
-/// None of these headers may be empty.
-fn check_headers(rt: &(impl AllocGlobal + Abort)) {
-    for (option, words) in HEADERS {
-        check_fault(rt, words, RequestFault::Name(*option, NameFault::Length));
-    }
+    check_faults(&rt, &HEADERS);
 }
 
 /// The words of a fault.
@@ -206,7 +201,7 @@ fn check_names(rt: &(impl AllocGlobal + Abort)) {
         let fault = RequestFault::Name(*option, *why);
         check_fault(rt, words, fault);
         let said = said_of(rt, fault);
-        check(rt, said == *wanted, said);
+        check_said(rt, said == *wanted, words, said);
     }
 }
 

@@ -175,6 +175,6 @@ fn lines_break_between_words_and_offers(rt: HostRuntime) {
 fn check_lines(rt: &(impl AllocGlobal + Abort)) {
     for (columns, text, wanted) in BROKEN {
         let lines = lines_of(rt, text, *columns);
-        assert!(rt; lines == wanted.as_bytes(), "{text} in {columns} columns");
+        check(rt, lines == wanted.as_bytes(), wanted);
     }
 }

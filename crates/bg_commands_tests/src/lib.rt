@@ -17,6 +17,8 @@ mod kept_output;
 #[cfg(test)]
 mod lasting;
 #[cfg(test)]
+mod loops;
+#[cfg(test)]
 mod observers;
 #[cfg(test)]
 mod operators;

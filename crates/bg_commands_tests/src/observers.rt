@@ -1,10 +1,12 @@
 //! What one who looks on is told of a match over sockets and files.
+use crate::checks::{check, check_number};
 use crate::folders::{lasting_folder, path_in};
+use crate::lasting::lasting;
+use crate::loops::play;
 use bg_auto::{LoopFault, Observer, party_at};
 use bg_board::Player;
-use bg_match::{Action, Number, Rules};
-use bg_processes::{Failures, play_loop};
-use bg_streams::Writing;
+use bg_match::{Action, Number};
+use bg_processes::Failures;
 use bg_world::{Event, Outcome, RestoreCause};
 use std::fs;
 use std::process::Abort;
@@ -31,42 +33,27 @@ impl Observer for Heard {
     }
 }
 
-/// What one is told who looks on while so many rounds are played over a folder.
-fn heard_of(rt: &HostRuntime, folder: &str, rounds: u32) -> (Result<(), LoopFault>, Heard) {
-    let failures = Failures::new();
+/// Three rounds over a folder come to this, and are told one after the other, as many as there are,
+/// with this event last. The folder is removed then.
+fn check_heard(
+    rt: &(impl AllocGlobal + Abort),
+    host: &HostRuntime,
+    folder: &str,
+    wanted: Result<(), LoopFault>,
+    rounds: u32,
+    last: (u8, bool),
+) {
+    let failures: &Failures = lasting(rt, Failures::new());
     let mut heard = Heard {
         last: None,
         rounds: 0,
         in_order: true,
     };
-    let mut text = Vec::new(rt.alloc());
-    let mut output = Writing::new(&mut text);
-    let played = play_loop(
-        rt,
-        7,
-        1,
-        Rules::One,
-        rounds,
-        folder,
-        &failures,
-        &mut output,
-        &mut heard,
-    );
-    (played, heard)
-}
-
-/// So many rounds were told, one after the other, and this event last.
-fn check_heard(rt: &impl Abort, heard: &Heard, rounds: u32, last: (u8, bool)) {
-    assert!(rt;
-        heard.rounds == rounds && heard.in_order,
-        "{} rounds",
-        heard.rounds
-    );
-    assert!(rt; heard.last == Some(last), "{:?}", heard.last);
-}
-
-/// Removes a folder with all that it has.
-fn remove(rt: &impl Abort, host: &HostRuntime, folder: &str) {
+    let played = play(rt, host, folder, 3, failures, &mut heard);
+    check(rt, played == wanted, "what three rounds come to");
+    let are_told = heard.rounds == rounds && heard.in_order;
+    check_number(rt, are_told, "rounds that are told:", heard.rounds);
+    check(rt, heard.last == Some(last), "the event that is told last");
     fs::remove_dir_all(host, folder).expect(rt, "the folder is removed");
 }
 
@@ -78,11 +65,8 @@ fn rounds_are_told_from_the_first(rt: HostRuntime) {
 /// Three rounds are told.
 fn check_rounds(rt: &(impl AllocGlobal + Abort), host: &HostRuntime) {
     let folder = lasting_folder(rt, host, "told-rounds");
-    let (played, heard) = heard_of(host, folder, 3);
-    assert!(rt; played == Ok(()), "{played:?}");
     // A round ends with the tick of the watcher.
-    check_heard(rt, &heard, 3, (3, false));
-    remove(rt, host, folder);
+    check_heard(rt, host, folder, Ok(()), 3, (3, false));
 }
 
 /// A file has bytes that are no saved text.
@@ -100,11 +84,8 @@ fn check_end(rt: &(impl AllocGlobal + Abort), host: &HostRuntime) {
     let folder = lasting_folder(rt, host, "told-end");
     damage(rt, host, path_in(rt, folder, "party-0.0"));
     damage(rt, host, path_in(rt, folder, "party-0.1"));
-    let (played, heard) = heard_of(host, folder, 3);
     let damaged = LoopFault::Stopped(Outcome::RestoreFault(RestoreCause::Damaged));
-    assert!(rt; played == Err(damaged), "it played on");
-    check_heard(rt, &heard, 0, (0, true));
-    remove(rt, host, folder);
+    check_heard(rt, host, folder, Err(damaged), 0, (0, true));
 }
 
 #[test]
@@ -134,6 +115,7 @@ fn parties_of_events(rt: HostRuntime) {
         (Event::Tick { party: 255 }, 255),
         (Event::Restart { party: 1 }, 1),
     ] {
-        assert!(rt; party_at(&event) == party, "{event:?}");
+        let is_so = party_at(&event) == party;
+        check_number(&rt, is_so, "an event of party", u32::from(party));
     }
 }

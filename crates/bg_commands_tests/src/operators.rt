@@ -1,16 +1,16 @@
 //! What the operator of a match over sockets and files is told.
-use crate::checks::check;
+use crate::checks::{check, check_said};
 use crate::folders::{lasting_folder, path_in};
 use crate::kept_output::KeptOutput;
 use crate::lasting::lasting;
+use crate::loops::play;
 use bg_auto::Observer;
 use bg_command_parts::Operator;
 use bg_console::Progress;
-use bg_match::{EntryFault, Number, Rules};
+use bg_match::{EntryFault, Number};
 use bg_party::Learned;
-use bg_processes::{Failures, FileKeeper, play_loop, read_saved};
+use bg_processes::{Failures, FileKeeper, read_saved};
 use bg_referee::TakeOutcome;
-use bg_streams::Writing;
 use bg_wire::Slot;
 use bg_world::{DeviceFault, Event, Keeper, Outcome, RestoreCause};
 use std::fs;
@@ -111,7 +111,7 @@ fn check_signs(rt: &(impl AllocGlobal + Abort), host: &HostRuntime) {
         ),
     ] {
         let said = said_of_take(rt, host, party, &outcome);
-        check(rt, is_sign(said, sign), said);
+        check_said(rt, is_sign(said, sign), sign, said);
     }
 }
 
@@ -172,9 +172,10 @@ fn check_seats(rt: &(impl AllocGlobal + Abort), host: &HostRuntime) {
         ((1, 0, 2), "party 2 has 2 entries saved, the referee 1"),
     ] {
         let said = said_at_start(rt, host, held);
-        check(rt, is_sign(said, sign), said);
+        check_said(rt, is_sign(said, sign), sign, said);
     }
-    assert!(rt; said_at_start(rt, host, (4, 4, 0)).is_empty());
+    let said = said_at_start(rt, host, (4, 4, 0));
+    check(rt, said.is_empty(), said);
 }
 
 /// A save of a party has succeeded.
@@ -204,15 +205,18 @@ fn saves_that_never_succeeded(rt: HostRuntime) {
     check_saves(&rt, &rt);
 }
 
-/// They are said in the end.
+const UNSAVED: &str = "bg_relay: no save of party 1 succeeded\n";
+
+/// They are said in the end, and none is where there was no save.
 fn check_saves(rt: &(impl AllocGlobal + Abort), host: &HostRuntime) {
     let told = operator_over(rt, host, "");
     told.operator.end();
-    assert!(rt; told.heard.said().is_empty());
     save_and_fail(told.operator);
-    assert!(rt; told.heard.said().is_empty());
+    let said = told.heard.said();
+    check(rt, said.is_empty(), said);
     told.operator.end();
-    assert!(rt; told.heard.said() == "bg_relay: no save of party 1 succeeded\n");
+    let said = told.heard.said();
+    check_said(rt, said == UNSAVED, UNSAVED, said);
 }
 
 /// A write fails, and the save with it.
@@ -246,16 +250,19 @@ fn check_failures(rt: &(impl AllocGlobal + Abort), host: &HostRuntime) {
     let told = operator_over(rt, host, folder);
     let keeper = FileKeeper::new(host, folder, 1, told.failures);
     let keeper = lasting(rt, keeper.expect(rt, "the files of X"));
-    for _ in 0..2 {
-        assert!(rt; fails_to_save(keeper, told.operator));
-    }
+    let fails = fails_to_save(keeper, told.operator) && fails_to_save(keeper, told.operator);
+    check(rt, fails, "both saves fail");
     let said = told.heard.said();
-    check(rt, is_missing(said, folder), said);
-    assert!(rt; keeper.write(Slot::Zero, b"text") == Err(DeviceFault::Failed));
+    check_said(rt, is_missing(said, folder), folder, said);
+    let written = keeper.write(Slot::Zero, b"text");
+    check(
+        rt,
+        written == Err(DeviceFault::Failed),
+        "a further write fails",
+    );
     told.operator.end();
     let said = told.heard.said();
-    let is_so = said == "bg_relay: no save of party 1 succeeded\n";
-    check(rt, is_so, said);
+    check_said(rt, said == UNSAVED, UNSAVED, said);
 }
 
 /// What is said while so many rounds are played over the folder.
@@ -266,19 +273,7 @@ fn said_while_played<'a>(
     rounds: u32,
 ) -> &'a str {
     let told = operator_over(rt, host, folder);
-    let text = lasting(rt, Vec::new(rt.alloc()));
-    let mut output = Writing::new(text);
-    let played = play_loop(
-        host,
-        7,
-        1,
-        Rules::One,
-        rounds,
-        folder,
-        told.failures,
-        &mut output,
-        told.operator,
-    );
+    let played = play(rt, host, folder, rounds, told.failures, told.operator);
     played.expect(rt, "so many rounds");
     told.operator.end();
     told.heard.said()
@@ -306,14 +301,16 @@ fn check_older_referee(rt: &(impl AllocGlobal + Abort), host: &HostRuntime) {
         path_in(rt, folder, "party-0.0"),
         path_in(rt, folder, "party-0.1"),
     );
-    assert!(rt; said_while_played(rt, host, folder, 10).is_empty());
+    let said = said_while_played(rt, host, folder, 10);
+    check(rt, said.is_empty(), said);
     let older = (bytes_of(rt, host, zero), bytes_of(rt, host, one));
-    assert!(rt; said_while_played(rt, host, folder, 60).is_empty());
+    let said = said_while_played(rt, host, folder, 60);
+    check(rt, said.is_empty(), said);
     write(rt, host, zero, older.0);
     write(rt, host, one, older.1);
     let said = said_while_played(rt, host, folder, 60);
     let sign = said.strip_prefix(AGES).unwrap_or_default();
     let is_so = sign.starts_with("party 1 has ") && said.lines().count() == 1;
-    check(rt, is_so, said);
+    check_said(rt, is_so, "party 1 has ..", said);
     fs::remove_dir_all(host, folder).expect(rt, "the folder is removed");
 }

@@ -1,4 +1,5 @@
 //! What the command of automatic matches prints.
+use crate::checks::check_number;
 use crate::kept_output::KeptOutput;
 use bg_auto::sim_text;
 use bg_console::Progress;
@@ -48,6 +49,7 @@ fn check_printed(rt: &(impl AllocGlobal + Abort), host: &HostRuntime) {
         let further = text_of(rt, seed, steps + 1);
         let is_so = printed(host, seed, steps) == Some(text)
             && printed(host, seed, steps + 1) == Some(further);
-        assert!(rt; is_so && text != further, "{seed} {steps}");
+        let holds = is_so && text != further;
+        check_number(rt, holds, "after so many events, and one more:", steps);
     }
 }

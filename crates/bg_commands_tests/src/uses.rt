@@ -58,7 +58,7 @@ fn a_transcript_grows(rt: HostRuntime) -> Result<(), Fail> {
 }
 
 #[test]
-fn no_saved_files_are_shown(rt: HostRuntime) -> Result<(), Fail> {
+fn no_saved_files_are_shown(rt: HostRuntime) {
     // bg_file_commands
     let saved = ShowOptions {
         path0: "no such folder",
@@ -67,11 +67,10 @@ fn no_saved_files_are_shown(rt: HostRuntime) -> Result<(), Fail> {
     };
     assert!(rt; show::run(&rt, saved) == Err(Ending::WrongArguments));
     // end
-    Ok(())
 }
 
 #[test]
-fn a_party_stops(rt: HostRuntime) -> Result<(), Fail> {
+fn a_party_stops(rt: HostRuntime) {
     let folder = "x";
     // bg_command_parts
     // A party that can't save any more is down: a message says why, and what to do.
@@ -85,11 +84,10 @@ fn a_party_stops(rt: HostRuntime) -> Result<(), Fail> {
     let failures = Failures::new();
     FailureReporter::new(&rt, &failures, folder).say_failures();
     // end
-    Ok(())
 }
 
 #[test]
-fn no_match_is_played(rt: HostRuntime) -> Result<(), Fail> {
+fn no_match_is_played(rt: HostRuntime) {
     // bg_seat_commands
     let seat = SeatOptions {
         player: Some(Player::X),
@@ -98,11 +96,10 @@ fn no_match_is_played(rt: HostRuntime) -> Result<(), Fail> {
     };
     assert!(rt; auto::run(&rt, seat, false) == Err(Ending::Failed));
     // end
-    Ok(())
 }
 
 #[test]
-fn no_match_is_simulated(rt: HostRuntime) -> Result<(), Fail> {
+fn no_match_is_simulated(rt: HostRuntime) {
     // bg_match_commands
     // A match of no length is none.
     let no_match = SimOptions {
@@ -117,7 +114,6 @@ fn no_match_is_simulated(rt: HostRuntime) -> Result<(), Fail> {
     let progress = Progress::start(&rt, false);
     assert!(rt; sim::run(&rt, no_match, progress) == Err(Ending::Failed));
     // end
-    Ok(())
 }
 
 #[test]

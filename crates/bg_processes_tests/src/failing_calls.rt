@@ -1,5 +1,6 @@
 //! Matches over sockets and files of which one call fails.
 use super::loops::counts;
+use crate::checks::check_number;
 use crate::helpers::devices::{keeper, link};
 use crate::helpers::failing_devices::{Calls, Failing};
 use crate::helpers::folders::{new_folder, remove_folder};
@@ -77,7 +78,7 @@ fn comes_to_call(rt: &impl Host, name: &str, failing: u32) -> bool {
     if calls.made.get() < failing {
         return false;
     }
-    assert!(rt; is_as_expected, "call {failing}");
+    check_number(rt, "call", failing.into(), is_as_expected);
     true
 }
 

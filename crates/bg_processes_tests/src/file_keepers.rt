@@ -1,9 +1,10 @@
 //! What is noted of files and folders that fail.
-use crate::helpers::devices::{failures, lasting_keeper};
+use crate::checks::check;
+use crate::helpers::devices::{failures, lasting_stand_in_keeper};
 use crate::helpers::folders::{new_folder, path_in, remove_folder};
 use crate::helpers::hosts::{Host, Hosted};
 use crate::helpers::lasting::lasting_text;
-use crate::helpers::stand_ins::stand_in;
+use crate::helpers::stand_ins::{StandIn, stand_in};
 use crate::helpers::told_failures::check_told;
 use bg_processes::Failures;
 use bg_wire::Slot;
@@ -29,11 +30,12 @@ fn check_both<K: Keeper>(
     keeper: &mut K,
     zero: Result<(), DeviceFault>,
     one: Result<(), DeviceFault>,
+    when: &str,
 ) {
-    assert!(rt; keeper.write(Slot::Zero, b"zero") == zero);
-    assert!(rt; keeper.write(Slot::One, b"one") == one);
-    assert!(rt; read(keeper, Slot::Zero) == zero);
-    assert!(rt; read(keeper, Slot::One) == one);
+    check(rt, keeper.write(Slot::Zero, b"zero") == zero, when);
+    check(rt, keeper.write(Slot::One, b"one") == one, when);
+    check(rt, read(keeper, Slot::Zero) == zero, when);
+    check(rt, read(keeper, Slot::One) == one, when);
 }
 
 /// The name of the folder without the control character that it ends with.
@@ -46,27 +48,37 @@ fn a_folder_that_cant_be_synced(rt: HostRuntime) {
     check_unsynced(&rt);
 }
 
-/// What is written to a folder that can't be synced is taken back, and it is noted once.
+/// The files of a party in a folder that can't be synced.
 fn check_unsynced(rt: &impl Host) {
     let folder = new_folder(rt, "sync\u{1b}");
-    let files = stand_in(rt, 0);
-    let failures = failures(rt);
-    let keeper = lasting_keeper(rt, files, folder, 1, failures);
+    let (files, failures) = (stand_in(rt, 0), failures(rt));
+    let keeper = lasting_stand_in_keeper(rt, files, folder, 1, failures);
+    check_taken_back(rt, keeper, files, failures, folder);
+    remove_folder(rt, folder);
+}
+
+/// What is written to a folder that can't be synced is taken back, and it is noted once.
+fn check_taken_back<'a, K: Keeper>(
+    rt: &impl Host,
+    keeper: &mut K,
+    files: &StandIn<'a>,
+    failures: &Failures,
+    folder: &'a str,
+) {
     files.barred.set(folder);
     // The name of the file may be lost: so what was written is taken back, and nothing is read. It
     // is noted once.
-    for _ in 0..2 {
-        check_both(rt, keeper, FAILED, FAILED);
-        assert!(rt; is_empty(rt, path_in(rt, folder, "party-1.0")));
+    for when in ["not synced", "not synced again"] {
+        check_both(rt, keeper, FAILED, FAILED, when);
+        check(rt, is_empty(rt, path_in(rt, folder, "party-1.0")), when);
     }
     check_unsynced_told(rt, failures, folder);
     // Synced once for each file, and then no more.
     files.barred.set("");
-    check_both(rt, keeper, OK, OK);
+    check_both(rt, keeper, OK, OK, "synced");
     files.barred.set(folder);
-    check_both(rt, keeper, OK, OK);
+    check_both(rt, keeper, OK, OK, "synced before");
     check_told(rt, failures, folder, "");
-    remove_folder(rt, folder);
 }
 
 /// Whether there is a file with no bytes.
@@ -94,15 +106,19 @@ fn a_file_that_cant_be_opened(rt: HostRuntime) {
 /// One file fails, and the other does not.
 fn check_unopened(rt: &impl Host) {
     let folder = new_folder(rt, "file\n");
-    let files = stand_in(rt, 0);
+    let (files, failures) = (stand_in(rt, 0), failures(rt));
     files.barred.set(path_in(rt, folder, "party-2.1"));
-    let failures = failures(rt);
-    let keeper = lasting_keeper(rt, files, folder, 2, failures);
-    for _ in 0..2 {
-        check_both(rt, keeper, OK, FAILED);
-    }
+    let keeper = lasting_stand_in_keeper(rt, files, folder, 2, failures);
+    check_one_fails(rt, keeper);
     check_unopened_told(rt, failures, folder);
     remove_folder(rt, folder);
+}
+
+/// Writes and reads of slot 1 fail, each time.
+fn check_one_fails<K: Keeper>(rt: &impl Abort, keeper: &mut K) {
+    for when in ["one file fails", "one file fails again"] {
+        check_both(rt, keeper, OK, FAILED, when);
+    }
 }
 
 fn check_unopened_told(rt: &(impl AllocGlobal + Abort), failures: &Failures, folder: &str) {

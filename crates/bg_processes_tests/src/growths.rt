@@ -1,29 +1,24 @@
 //! Want of memory: no run of the tests refuses a growth, but `tools/checks/refuse_growths` refuses
 //! each in turn.
 use super::failing_calls::is_sound;
+use crate::checks::{check, check_no_growth_is_left};
 use crate::helpers::failing_devices::Calls;
 use crate::helpers::folders::{remove_folder, try_folder};
 use crate::helpers::hosts::{Host, Hosted};
 use crate::helpers::lasting::lasting_text;
 use crate::helpers::played_loops::{SEED, SHORT, played, try_played};
-use crate::helpers::tables::Table;
+use crate::helpers::tables::real_devices::{Files, Socket, real_devices};
+use crate::helpers::tables::{Devices, Table};
 use bg_auto::LoopFault;
 use bg_match::Rules;
 use bg_processes::{
     KeyFile, MatchFile, make_key_secret, make_secret, publish, read_key_secret, read_secret,
 };
-use bg_world::WorldFault;
-use std::alloc::AllocError;
+use bg_world::{Keeper, Link, WorldFault};
+use std::alloc::{AllocError, Global};
 use std::io::ErrorKind;
 use std::process::Abort;
 use std::{fs, io};
-
-/// Fails where the growth that comes next is refused: so `tools/checks/refuse_growths` learns how
-/// many came before.
-fn check_no_growth_is_left(rt: &(impl AllocGlobal + Abort)) {
-    let growth = Vec::<u8>::with_capacity(rt.alloc(), 1);
-    assert!(rt; growth.is_ok(), "no growth is left");
-}
 
 /// A new folder, by a second try where the first lacked memory.
 fn folder_at_last(rt: &impl Host, name: &str) -> &'static str {
@@ -60,9 +55,10 @@ fn check_files(rt: &impl Host) {
     let mut failed = false;
     for _ in 0..2 {
         match write_and_read(rt, folder, &WRITTEN) {
-            Ok(read) => assert!(rt; read == Some(WRITTEN)),
+            Ok(read) => check(rt, read == Some(WRITTEN), "what was written"),
             Err(error) => {
-                assert!(rt; error.kind() == ErrorKind::OutOfMemory && !failed);
+                let is_first = error.kind() == ErrorKind::OutOfMemory && !failed;
+                check(rt, is_first, "memory is refused once");
                 failed = true;
             }
         }
@@ -115,14 +111,20 @@ fn refused_growths_of_processes(rt: HostRuntime) {
 /// A match between processes goes on where memory was refused.
 fn check_processes(rt: &impl Host) {
     let folder = folder_at_last(rt, "process-growths");
-    play_some(rt, folder);
+    let calls = Calls::new(0);
+    let devices = real_devices(rt, &calls, folder);
+    let goes_on = plays_some::<Socket<'_>, Files<'_>, _>(rt.alloc(), devices);
+    check(rt, goes_on, "the match goes on");
     remove_at_last(rt, folder);
     check_no_growth_is_left(rt);
 }
 
-fn play_some(rt: &impl Host, folder: &str) {
-    let calls = Calls::new(0);
-    Table::new(rt, &calls, folder, Rules::One).play_some(3);
+/// Whether a match over these devices goes on until the watcher holds three entries.
+fn plays_some<L: Link + Drop, K: Keeper + Drop, D: Devices<L, K> + Drop>(
+    alloc: Global,
+    devices: D,
+) -> bool {
+    Table::new(alloc, devices, Rules::One).play_some(3)
 }
 
 /// Whether a match ended for want of memory; the output of these tests is in memory too.
@@ -147,11 +149,11 @@ fn check_round(rt: &impl Host) {
     let text = match try_played(rt, folder, SEED, SHORT, 1) {
         Ok(text) => text,
         Err(fault) => {
-            assert!(rt; lacked_memory(&fault));
+            check(rt, lacked_memory(&fault), "no other fault");
             played(rt, folder, SEED, SHORT, 1)
         }
     };
-    assert!(rt; is_sound(text));
+    check(rt, is_sound(text), "all parties are up");
     remove_at_last(rt, folder);
     check_no_growth_is_left(rt);
 }

@@ -3,6 +3,8 @@
 #![tactic(auto)]
 
 #[cfg(test)]
+mod checks;
+#[cfg(test)]
 mod failing_calls;
 #[cfg(test)]
 mod file_keepers;

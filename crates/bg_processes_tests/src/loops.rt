@@ -1,4 +1,5 @@
 //! Matches over sockets and files.
+use crate::checks::{check, check_number};
 use crate::helpers::folders::{new_folder, path_in, remove_folder};
 use crate::helpers::hosts::{Host, Hosted};
 use crate::helpers::played_loops::{SEED, SHORT, played, try_played};
@@ -59,14 +60,15 @@ fn no_rounds(rt: HostRuntime) {
 fn check_no_rounds(rt: &impl Host) {
     let folder = new_folder(rt, "no-rounds");
     let text = played(rt, folder, SEED, SHORT, 0);
-    assert!(rt; text == AT_THE_START.as_bytes());
+    check(rt, text == AT_THE_START.as_bytes(), "the start");
     remove_folder(rt, folder);
 }
 
 /// Plays forty rounds, and gives what the referee saved.
 fn after_forty<'a>(rt: &impl Host, folder: &str) -> &'a Record {
     let text = played(rt, folder, SEED, SHORT, 40);
-    assert!(rt; counts(text).is_some_and(|counts| counts[0] >= 3));
+    let has_some = counts(text).is_some_and(|counts| counts[0] >= 3);
+    check(rt, has_some, "three entries of the referee");
     saved_record(rt, folder, REFEREE, SEED, SHORT)
 }
 
@@ -80,7 +82,8 @@ fn check_forty(rt: &impl Host) {
     let folder = new_folder(rt, "forty-rounds");
     let earlier = after_forty(rt, folder);
     let later = after_forty(rt, folder);
-    assert!(rt; later.len() > earlier.len() && begins_with(later, earlier));
+    let goes_on = later.len() > earlier.len() && begins_with(later, earlier);
+    check(rt, goes_on, "the later rounds go on");
     remove_folder(rt, folder);
 }
 
@@ -98,10 +101,8 @@ fn entries_are_those_of_the_match_in_memory(rt: HostRuntime) {
 fn check_matches(rt: &impl Host) {
     for (seed, rounds, least) in PLAYED {
         let record = record_of(rt, seed, rounds);
-        assert!(rt;
-            record.len() >= least && has_opening(record, seed),
-            "match {seed}"
-        );
+        let is_so = record.len() >= least && has_opening(record, seed);
+        check_number(rt, "match", seed, is_so);
         check_entries(rt, seed, record);
     }
 }
@@ -125,15 +126,14 @@ fn has_opening(record: &Record, seed: u64) -> bool {
 fn check_entries(rt: &(impl AllocGlobal + Abort), seed: u64, record: &Record) {
     let in_memory = sim_text(rt.alloc(), seed, 3, Rules::One, 0, 14_000);
     let in_memory = in_memory.expect(rt, "a match in memory").leak();
-    assert!(rt; in_memory.starts_with(text_of(rt, record)), "match {seed}");
+    let is_so = in_memory.starts_with(text_of(rt, record));
+    check_number(rt, "match in memory", seed, is_so);
 }
 
 /// A match over the folder stops for this cause.
 fn check_stops(rt: &impl Host, folder: &str, seed: u64, cause: RestoreCause) {
-    assert!(rt;
-        stops(try_played(rt, folder, seed, SHORT, 10), cause),
-        "match {seed}"
-    );
+    let is_so = stops(try_played(rt, folder, seed, SHORT, 10), cause);
+    check_number(rt, "match", seed, is_so);
 }
 
 /// Whether a match stopped for this cause.
@@ -172,7 +172,7 @@ fn check_no_matches(rt: &impl Host) {
     for length in [0, 100] {
         let terms = Terms { length, ..SHORT };
         let is_refused = is_no_world(try_played(rt, folder, SEED, terms, 1));
-        assert!(rt; is_refused, "length {length}");
+        check_number(rt, "length", length.into(), is_refused);
     }
     remove_folder(rt, folder);
 }

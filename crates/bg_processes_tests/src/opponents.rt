@@ -8,6 +8,7 @@
 //! - "awaited 0-600": when the match waits for O.
 //!
 //! All other lines say at which tick what is said to X.
+use crate::checks::check_number;
 use crate::helpers::hosts::Host;
 use crate::helpers::lasting::lasting;
 use crate::helpers::party_scripts::{Sockets, lasting_sockets};
@@ -114,7 +115,12 @@ fn check_said<R: Host>(
     let (rt, clock) = (sockets.rt, sockets.clock);
     let is_awaited = is_so(rt, play, "awaited", tick);
     let said = word_of(opponent.after_round(clock, sockets.of(1), is_awaited));
-    assert!(rt; said == said_at(play, tick), "tick {tick}: {said}");
+    check_number(
+        rt,
+        "what is said at tick",
+        tick.into(),
+        said == said_at(play, tick),
+    );
 }
 
 fn check(rt: &impl Host, play: &str) {

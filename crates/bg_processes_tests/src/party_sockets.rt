@@ -1,4 +1,5 @@
 //! A party's socket, and what strangers send to it.
+use crate::checks::{check, check_number};
 use crate::helpers::hosts::{Host, Hosted};
 use crate::helpers::lasting::lasting;
 use crate::helpers::party_scripts::{Sockets, check_script, lasting_sockets};
@@ -16,10 +17,10 @@ take 0 x-wants
 take 0 nothing
 # Not for another party than the socket's.
 send 1 0 x-wants
-take as 1 0 nothing
+take-as 1 0 nothing
 # To a party that is away, and to one that is not the referee.
 send 0 9 opening
-can't send 1 2 x-wants
+unsent 1 2 x-wants
 take 2 nothing
 ";
 
@@ -39,11 +40,8 @@ fn check_packets(rt: &impl Host) {
 
 /// There is no socket at this port for this party.
 fn check_refused<R: Host>(sockets: &Sockets<'_, R>, port: u16, party: u8, kind: ErrorKind) {
-    let rt = sockets.rt;
-    assert!(rt;
-        refusal(sockets, port, party) == Some(kind),
-        "party {party}"
-    );
+    let is_so = refusal(sockets, port, party) == Some(kind);
+    check_number(sockets.rt, "party", party.into(), is_so);
 }
 
 /// Why there is no socket at this port for this party.
@@ -153,11 +151,6 @@ fn said_at(tick: u32) -> Option<LivenessChange> {
     }
 }
 
-/// Takes for a party what there is, where the link does not fail.
-fn take<L: Link>(rt: &impl Abort, link: &mut L, party: u8) {
-    assert!(rt; link.take(party, 0).is_ok(), "party {party}");
-}
-
 #[test]
 fn silence_of_the_referee(rt: HostRuntime) {
     check_silence(&rt);
@@ -169,12 +162,11 @@ fn check_silence(rt: &impl Host) {
     let liveness = lasting(rt, Liveness::new());
     for tick in 0..100u32 {
         set_time(sockets, tick);
-        if !(10..50).contains(&tick) {
-            take(rt, sockets.of(0), 0);
-        }
-        take(rt, sockets.of(1), 1);
+        let is_taken = (10..50).contains(&tick) || sockets.of(0).take(0, 0).is_ok();
+        let is_taken = is_taken && sockets.of(1).take(1, 0).is_ok();
         let word = liveness.after_round(sockets.of(1), true);
-        assert!(rt; word == said_at(tick), "tick {tick}");
+        let is_so = is_taken && word == said_at(tick);
+        check_number(rt, "tick", tick.into(), is_so);
     }
 }
 
@@ -214,10 +206,10 @@ fn check_attendance(rt: &impl Host) {
         if matches!(time, 1000 | 60_000 | 200_000) {
             sockets.play("send 1 0 x-wants\ntake 0 x-wants\n");
         }
-        let found = attendance.change(sockets.of(0), 1);
-        assert!(rt; found == told_at(time), "X after {time}");
-        let found = attendance.change(sockets.of(0), 2);
-        assert!(rt; found.is_none(), "O after {time}");
+        let of_x = attendance.change(sockets.of(0), 1);
+        check_number(rt, "X after", time, of_x == told_at(time));
+        let of_o = attendance.change(sockets.of(0), 2);
+        check_number(rt, "O after", time, of_o.is_none());
     }
 }
 
@@ -239,7 +231,7 @@ fn check_waiting(rt: &impl Host) {
     // So is what comes after a read that found nothing.
     sockets.play("take 0 nothing\nsend 1 0 x-wants");
     let empty_reads = sockets.of(0).empty_reads();
-    assert!(rt; empty_reads == 1);
+    check(rt, empty_reads == 1, "one read that found nothing");
     check_told_twice(rt, waiting, empty_reads);
     sockets.play("take 0 x-wants");
     check_ticks(rt, waiting);
@@ -263,18 +255,27 @@ fn check_time(rt: &impl Host, waiting: &mut Waiting) {
     let begun = Instant::now(rt.host()).expect(rt, "a clock");
     check_ready(rt, waiting, 0, 30, false);
     let ended = Instant::now(rt.host()).expect(rt, "a clock");
-    assert!(rt; ended.duration_since(begun).as_millis() >= 25);
+    let milliseconds = ended.duration_since(begun).as_millis();
+    check(rt, milliseconds >= 25, "a wait of 30 ms");
 }
 
 /// A first tick is due at once, and the next one after a wait.
 fn check_ticks(rt: &impl Host, waiting: &mut Waiting) {
     let mut ticking = Ticking::new(rt.host()).expect(rt, "a clock");
-    for is_due in [true, false] {
-        assert!(rt; ticking.is_due(rt.host()).expect(rt, "a clock") == is_due);
-    }
+    check(rt, is_due(&mut ticking, rt.host(), true), "a first tick");
+    check(
+        rt,
+        is_due(&mut ticking, rt.host(), false),
+        "no second one yet",
+    );
     let ready = ticking.wait(rt.host(), waiting, 1).expect(rt, "a wait");
-    assert!(rt; !ready.socket);
-    assert!(rt; ticking.is_due(rt.host()).expect(rt, "a clock"));
+    check(rt, !ready.socket, "nothing to be read");
+    check(rt, is_due(&mut ticking, rt.host(), true), "a second tick");
+}
+
+/// Whether a tick is due or not, as is expected.
+fn is_due(ticking: &mut Ticking, host: &HostRuntime, expected: bool) -> bool {
+    ticking.is_due(host).ok() == Some(expected)
 }
 
 /// Whether a socket of which so many reads found nothing can be read within so many milliseconds;
@@ -282,5 +283,6 @@ fn check_ticks(rt: &impl Host, waiting: &mut Waiting) {
 fn check_ready(rt: &impl Abort, waiting: &mut Waiting, empty_reads: u32, most: u64, socket: bool) {
     let ready = waiting.wait(Duration::from_millis(most), empty_reads);
     let ready = ready.expect(rt, "a wait");
-    assert!(rt; ready.socket == socket && !ready.input, "after {most} ms");
+    let is_so = ready.socket == socket && !ready.input;
+    check_number(rt, "milliseconds:", most, is_so);
 }

@@ -1,9 +1,10 @@
 //! How the other seat stands, as the referee's socket tells a seat of it.
+use crate::checks::check_number;
 use crate::helpers::devices::failures;
 use crate::helpers::hosts::{Host, Hosted};
 use crate::helpers::lasting::lasting;
 use crate::helpers::party_scripts::{SetClock, check_script, takes};
-use crate::helpers::tables::{free_port, keys_of};
+use crate::helpers::tables::real_devices::{free_port, keys_of};
 use bg_processes::PartySocket;
 use std::net::{Ipv4Addr, UdpSocket};
 
@@ -98,7 +99,7 @@ fn check_answers<'a>(
     let socket = socket_of(rt, port, party);
     send(rt, &socket, port, party, &[0]);
     let is_so = takes(referee, 0, None) && are_all(&socket, party, answers);
-    assert!(rt; is_so, "party {party}");
+    check_number(rt, "party", party.into(), is_so);
 }
 
 /// Whether these have come to a party from the referee, one behind the other, and no more.

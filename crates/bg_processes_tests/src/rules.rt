@@ -1,4 +1,5 @@
 //! Files of matches by the second rules.
+use crate::checks::check;
 use crate::helpers::folders::{new_folder, remove_folder};
 use crate::helpers::hosts::Host;
 use crate::helpers::played_loops::{SEED, SHORT, played, try_played};
@@ -19,10 +20,12 @@ fn check_rules(rt: &impl Host) {
         ..SHORT
     };
     let text = played(rt, folder, SEED, terms, 5);
-    let text = str::from_utf8(text).expect(rt, "a text");
-    assert!(rt; text.contains("\nlength 1 rules 2 game 1 "));
+    let text = str::from_utf8(text).unwrap_or_default();
+    let is_told = text.contains("\nlength 1 rules 2 game 1 ");
+    check(rt, is_told, "the rules are told");
     let refused = try_played(rt, folder, SEED, SHORT, 5);
-    assert!(rt; stops(refused, RestoreCause::WrongMatch));
+    let stops = stops(refused, RestoreCause::WrongMatch);
+    check(rt, stops, "other rules are another match");
     played(rt, folder, SEED, terms, 5);
     remove_folder(rt, folder);
 }

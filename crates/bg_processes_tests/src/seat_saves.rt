@@ -3,11 +3,13 @@ use crate::helpers::failing_devices::Calls;
 use crate::helpers::folders::{new_folder, remove_folder};
 use crate::helpers::hosts::Host;
 use crate::helpers::lasting::lasting;
-use crate::helpers::tables::Table;
+use crate::helpers::tables::real_devices::{Files, Socket, real_devices};
+use crate::helpers::tables::{Devices, Table};
 use crate::helpers::words::{number, word};
 use bg_auto::Observer;
 use bg_match::{Number, Rules};
-use bg_world::{Event, Outcome};
+use bg_world::{Event, Keeper, Link, Outcome};
+use std::process::Abort;
 
 /// How often a seat has saved, and how many entries it held then.
 #[derive(Drop)]
@@ -63,40 +65,46 @@ o ends 5 6
 o ends 5 6
 ";
 
+/// A table of these devices comes through rows.
+fn check_table<L: Link + Drop, K: Keeper + Drop, D: Devices<L, K> + Drop>(
+    rt: &(impl AllocGlobal + Abort),
+    devices: D,
+    rows: &str,
+) {
+    check_rows(rt, &mut Table::new(rt.alloc(), devices, Rules::One), rows);
+}
+
 /// Rows end the test where a party does something else, or O has saved more or less.
-fn check_rows<R: Host>(rt: &R, table: &mut Table<'_, R>, rows: &str) {
-    let saves = lasting(
-        rt,
-        Saves {
-            made: 0,
-            entries: 0,
-        },
-    );
+fn check_rows<L: Link + Drop, K: Keeper + Drop, D: Devices<L, K> + Drop>(
+    rt: &impl Abort,
+    table: &mut Table<D, L, K>,
+    rows: &str,
+) {
+    let mut saves = Saves {
+        made: 0,
+        entries: 0,
+    };
     for row in rows.lines() {
         if !row.starts_with('#') {
-            check_row(rt, table, saves, row);
+            let is_done = table.step(word(rt, row, 0), word(rt, row, 1), &mut saves);
+            check_saved(rt, row, is_done, saves.made, saves.entries);
         }
     }
 }
 
-fn check_row<R: Host>(rt: &R, table: &mut Table<'_, R>, saves: &mut Saves, row: &str) {
-    let is_done = table.step(word(rt, row, 0), word(rt, row, 1), saves);
-    let made = number(rt, word(rt, row, 2));
-    let entries = number(rt, word(rt, row, 3));
-    let is_so = is_done && saves.made == made && saves.entries == entries;
-    let (saved, last) = (saves.made, saves.entries);
-    assert!(rt; is_so, "{row}: {saved} saves, the last of {last} entries");
+/// What a row says was done, and O has saved so often since, and so many entries.
+fn check_saved(rt: &impl Abort, row: &str, is_done: bool, made: u32, entries: Number) {
+    let are_so_many = number(rt, word(rt, row, 2)) == made
+        && number(rt, word(rt, row, 3)) == entries;
+    let is_so = is_done && are_so_many;
+    assert!(rt; is_so, "{row}: {made} saves, the last of {entries} entries");
 }
 
 /// The rows of a match in a folder of its own.
 fn check_saves(rt: &impl Host, name: &str, rows: &str) {
     let folder = new_folder(rt, name);
     let calls: &Calls = lasting(rt, Calls::new(0));
-    check_rows(
-        rt,
-        lasting(rt, Table::new(rt, calls, folder, Rules::One)),
-        rows,
-    );
+    check_table::<Socket<'_>, Files<'_>, _>(rt, real_devices(rt, calls, folder), rows);
     remove_folder(rt, folder);
 }
 

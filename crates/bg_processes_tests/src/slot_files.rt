@@ -1,5 +1,6 @@
 //! Which file has what: single calls of the files of a match, and the first rounds.
-use crate::helpers::devices::{failures, lasting_keeper};
+use crate::checks::{check, check_number};
+use crate::helpers::devices::{failures, lasting_keeper, lasting_stand_in_keeper};
 use crate::helpers::folders::{new_folder, path_in, remove_folder};
 use crate::helpers::hosts::{Host, Hosted};
 use crate::helpers::played_loops::{SEED, SHORT, played};
@@ -19,7 +20,7 @@ fn file(rt: &impl Host, folder: &str, name: &str) -> Option<&'static [u8]> {
             Some(bytes)
         }
         Err(error) => {
-            assert!(rt; error.kind() == ErrorKind::NotFound, "{name}");
+            check(rt, error.kind() == ErrorKind::NotFound, name);
             None
         }
     }
@@ -32,7 +33,7 @@ fn check_file(rt: &impl Host, folder: &str, name: &str, bytes: Option<&[u8]>) {
         (None, None) => true,
         _ => false,
     };
-    assert!(rt; has, "{name}");
+    check(rt, has, name);
 }
 
 /// Whether a slot has these bytes.
@@ -44,24 +45,30 @@ fn reads<K: Keeper>(keeper: &mut K, slot: Slot, bytes: &[u8]) -> bool {
 }
 
 /// The slots have these bytes.
-fn check_slots<K: Keeper>(rt: &impl Abort, keeper: &mut K, zero: &[u8], one: &[u8]) {
-    assert!(rt; reads(keeper, Slot::Zero, zero) && reads(keeper, Slot::One, one));
+fn check_slots<K: Keeper>(rt: &impl Abort, keeper: &mut K, zero: &[u8], one: &[u8], when: &str) {
+    let have = reads(keeper, Slot::Zero, zero) && reads(keeper, Slot::One, one);
+    check(rt, have, when);
 }
 
-/// A write and a read fail so.
-fn check_fails<K: Keeper>(rt: &impl Abort, keeper: &mut K, fault: DeviceFault) {
-    assert!(rt; keeper.write(Slot::One, b"text") == Err(fault));
-    assert!(rt; keeper.read(Slot::One).err() == Some(fault));
-}
-
-fn check_writes<K: Keeper>(rt: &impl Abort, keeper: &mut K, slot: Slot, bytes: &[u8]) {
-    assert!(rt; keeper.write(slot, bytes) == Ok(()));
+fn check_writes<K: Keeper>(rt: &impl Abort, keeper: &mut K, slot: Slot, bytes: &[u8], what: &str) {
+    check(rt, keeper.write(slot, bytes) == Ok(()), what);
 }
 
 /// A folder has so many files.
 fn check_count(rt: &impl Host, folder: &str, count: usize) {
-    let files = fs::read_dir(rt.host(), folder).expect(rt, "a folder");
-    assert!(rt; files.count() == count);
+    check_number(
+        rt,
+        "files:",
+        count as u64,
+        has_count(rt.host(), folder, count),
+    );
+}
+
+fn has_count(host: &HostRuntime, folder: &str, count: usize) -> bool {
+    match fs::read_dir(host, folder) {
+        Ok(files) => files.count() == count,
+        Err(_) => false,
+    }
 }
 
 /// The parties that keep saves, and their files: slot S of party P is the file `party-P.S`.
@@ -81,7 +88,8 @@ fn files_of_slots(rt: HostRuntime) {
 fn check_all_files(rt: &impl Host) {
     let folder = new_folder(rt, "files-of-slots");
     for (party, zero, one) in FILES {
-        check_files(rt, folder, party, zero, one);
+        let keeper = lasting_keeper(rt, folder, party, failures(rt));
+        check_files(rt, keeper, folder, party, zero, one);
     }
     check_count(rt, folder, 6);
     remove_folder(rt, folder);
@@ -89,19 +97,25 @@ fn check_all_files(rt: &impl Host) {
 
 /// The writes of a party, and what its files have after each; of slot 0 nothing before it was
 /// written.
-fn check_files(rt: &impl Host, folder: &str, party: u8, zero: &str, one: &str) {
-    let keeper = lasting_keeper(rt, rt.host(), folder, party, failures(rt));
+fn check_files<K: Keeper>(
+    rt: &impl Host,
+    keeper: &mut K,
+    folder: &str,
+    party: u8,
+    zero: &str,
+    one: &str,
+) {
     let (long, own, short) = (b"the longer text", [party], b"text");
-    check_slots(rt, keeper, b"", b"");
-    check_writes(rt, keeper, Slot::One, long);
-    check_slots(rt, keeper, b"", long);
+    check_slots(rt, keeper, b"", b"", "nothing is written yet");
+    check_writes(rt, keeper, Slot::One, long, "the longer text");
+    check_slots(rt, keeper, b"", long, "the longer text is written");
     check_file(rt, folder, zero, None);
     check_file(rt, folder, one, Some(long));
-    check_writes(rt, keeper, Slot::Zero, &own);
-    check_slots(rt, keeper, &own, long);
+    check_writes(rt, keeper, Slot::Zero, &own, "a byte");
+    check_slots(rt, keeper, &own, long, "both are written");
     check_both(rt, folder, (zero, &own), (one, long));
-    check_writes(rt, keeper, Slot::One, short);
-    check_slots(rt, keeper, &own, short);
+    check_writes(rt, keeper, Slot::One, short, "the shorter text");
+    check_slots(rt, keeper, &own, short, "the shorter text is written");
     check_both(rt, folder, (zero, &own), (one, short));
 }
 
@@ -117,35 +131,53 @@ fn files_that_fail(rt: HostRuntime) {
     check_failing(&rt);
 }
 
-/// Reads and writes fail while no file can be opened.
+/// The files of a party over what stands in for the system.
 fn check_failing(rt: &impl Host) {
     let folder = new_folder(rt, "files-that-fail");
     let files = stand_in(rt, 0);
-    let keeper = lasting_keeper(rt, files, folder, 1, failures(rt));
-    for (kind, fault) in FAULTS {
-        fail_as(files, kind);
-        check_fails(rt, keeper, fault);
-    }
-    // A file that is missing is none that fails: it has no bytes.
-    fail_as(files, ErrorKind::NotFound);
-    check_slots(rt, keeper, b"", b"");
-    check_count(rt, folder, 0);
-    files.files_fail.set(None);
-    check_writes(rt, keeper, Slot::One, b"text");
-    check_file(rt, folder, "party-1.1", Some(b"text"));
+    let keeper = lasting_stand_in_keeper(rt, files, folder, 1, failures(rt));
+    check_opened_late(rt, keeper, files, folder);
     remove_folder(rt, folder);
 }
 
+/// Reads and writes fail while no file can be opened.
+fn check_opened_late<K: Keeper>(rt: &impl Host, keeper: &mut K, files: &StandIn<'_>, folder: &str) {
+    for (kind, fault, what) in FAULTS {
+        fail_as(files, io::Error::from(kind));
+        check(rt, fails(keeper, fault), what);
+    }
+    // A file that is missing is none that fails: it has no bytes.
+    fail_as(files, io::Error::from(ErrorKind::NotFound));
+    check_slots(rt, keeper, b"", b"", "missing files");
+    check_count(rt, folder, 0);
+    files.files_fail.set(None);
+    check_writes(rt, keeper, Slot::One, b"text", "files that are opened");
+    check_file(rt, folder, "party-1.1", Some(b"text"));
+}
+
+/// Whether a write and a read fail so.
+fn fails<K: Keeper>(keeper: &mut K, fault: DeviceFault) -> bool {
+    keeper.write(Slot::One, b"text") == Err(fault) && keeper.read(Slot::One).err() == Some(fault)
+}
+
 /// Why no file is opened, and the fault that this is.
-const FAULTS: [(ErrorKind, DeviceFault); 3] = [
-    (ErrorKind::OutOfMemory, DeviceFault::Memory),
-    (ErrorKind::PermissionDenied, DeviceFault::Failed),
-    (ErrorKind::StorageFull, DeviceFault::Failed),
+const FAULTS: [(ErrorKind, DeviceFault, &str); 3] = [
+    (
+        ErrorKind::OutOfMemory,
+        DeviceFault::Memory,
+        "want of memory",
+    ),
+    (
+        ErrorKind::PermissionDenied,
+        DeviceFault::Failed,
+        "no permission",
+    ),
+    (ErrorKind::StorageFull, DeviceFault::Failed, "no space"),
 ];
 
 /// No file is opened from now on, for this reason.
-fn fail_as(files: &StandIn<'_>, kind: ErrorKind) {
-    files.files_fail.set(Some(io::Error::from(kind)));
+fn fail_as(files: &StandIn<'_>, error: io::Error) {
+    files.files_fail.set(Some(error));
 }
 
 /// Of the system's errors the wants of memory are told from all others, by their numbers on Linux:
@@ -156,30 +188,31 @@ fn faults_of_devices(rt: HostRuntime) {
     check_faults(&rt);
 }
 
-/// Each number has its fault.
+/// The files of a party over what stands in for the system.
 fn check_faults(rt: &impl Host) {
     let files = stand_in(rt, 0);
-    let keeper = lasting_keeper(rt, files, ".", 1, failures(rt));
-    for number in [12, 1, 2, 5, 24, 28, 30, 98, 105, 111] {
-        let error = io::Error::from_raw_os_error(number);
-        files.files_fail.set(Some(error));
-        check_fault(rt, keeper, number);
-    }
+    let keeper = lasting_stand_in_keeper(rt, files, ".", 1, failures(rt));
+    check_numbers(rt, keeper, files);
 }
 
-fn check_fault<K: Keeper>(rt: &impl Abort, keeper: &mut K, number: i32) {
-    let fault = if number == 12 {
-        DeviceFault::Memory
-    } else {
-        DeviceFault::Failed
-    };
-    assert!(rt; keeper.write(Slot::Zero, b"text") == Err(fault), "{number}");
+/// Each number has its fault.
+fn check_numbers<K: Keeper>(rt: &impl Abort, keeper: &mut K, files: &StandIn<'_>) {
+    for number in [12, 1, 2, 5, 24, 28, 30, 98, 105, 111] {
+        fail_as(files, io::Error::from_raw_os_error(number));
+        let fault = if number == 12 {
+            DeviceFault::Memory
+        } else {
+            DeviceFault::Failed
+        };
+        let is_so = keeper.write(Slot::Zero, b"text") == Err(fault);
+        check_number(rt, "error", number as u64, is_so);
+    }
 }
 
 /// A file has this save of a party.
 fn check_save(rt: &impl Host, folder: &str, name: &str, party: u8, save: u32) {
     let bytes = file(rt, folder, name).expect(rt, name);
-    assert!(rt; is_save(rt.alloc(), bytes, party, save), "{name}");
+    check(rt, is_save(rt.alloc(), bytes, party, save), name);
 }
 
 /// Whether bytes are this save of a party.

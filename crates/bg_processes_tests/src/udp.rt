@@ -1,4 +1,5 @@
 //! Single calls of the sockets of a match.
+use crate::checks::{check, check_number};
 use crate::helpers::devices::{failures, lasting_link};
 use crate::helpers::folders::new_folder;
 use crate::helpers::hosts::{Host, Hosted};
@@ -26,9 +27,11 @@ fn sockets_are_bound_to_the_loopback_address(rt: HostRuntime) {
 fn check_addresses(rt: &impl Host) {
     let net = stand_in(rt, 255);
     lasting_link(rt, net, 255, failures(rt));
-    assert!(rt; net.opened() == 255 && !net.strayed.get());
+    let is_own = net.opened() == 255 && !net.strayed.get();
+    check(rt, is_own, "each party has a socket of its own");
     for index in 0..255 {
-        assert!(rt; is_loopback(net.address(rt, index)), "socket {index}");
+        let is_so = net.address(index).is_some_and(is_loopback);
+        check_number(rt, "socket", index as u64, is_so);
     }
 }
 
@@ -48,7 +51,7 @@ fn counted() -> [u8; 600] {
 
 /// A party takes these bytes, or there is nothing for it to take.
 fn check_taken<L: Link>(rt: &impl Abort, link: &mut L, party: u8, expected: Option<&[u8]>) {
-    assert!(rt; takes(link, party, expected), "party {party}");
+    check_number(rt, "party", party.into(), takes(link, party, expected));
 }
 
 /// A datagram comes whole to its own party alone, and once; what came first is taken first,
@@ -83,7 +86,7 @@ fn check_order<L: Link>(rt: &impl Abort, link: &mut L) {
 
 /// Bytes are sent to a party.
 fn check_sent<L: Link>(rt: &impl Abort, link: &mut L, to: u8, bytes: &[u8]) {
-    assert!(rt; sends(rt, link, to, bytes), "to party {to}");
+    check_number(rt, "to party", to.into(), sends(rt, link, to, bytes));
 }
 
 /// Of a datagram no more than 256 bytes are taken, and the rest is lost.
@@ -92,29 +95,22 @@ fn longer_datagrams_are_cut(rt: HostRuntime) {
     check_long(&rt);
 }
 
-/// Datagrams of each length.
+/// A link, and what sends to the socket of party 3.
 fn check_long(rt: &impl Host) {
     let net = stand_in(rt, 4);
     let link = lasting_link(rt, net, 4, failures(rt));
-    let socket = net.socket(rt, 3);
-    for (count, taken) in [(0, 0), (255, 255), (256, 256), (257, 256), (600, 256)] {
-        check_cut(rt, socket, link, count, taken);
-    }
+    check_lengths(rt, net.socket(rt, 3), link);
 }
 
 /// Of so many bytes that are sent to the socket of party 3 so many are taken.
-fn check_cut<L: Link>(
-    rt: &impl Abort,
-    socket: &UdpSocket,
-    link: &mut L,
-    count: usize,
-    taken: usize,
-) {
+fn check_lengths<L: Link>(rt: &impl Abort, socket: &UdpSocket, link: &mut L) {
     let bytes = counted();
-    let sent = &bytes[..count.min(bytes.len())];
-    assert!(rt; sends_itself(socket, sent), "{count} bytes");
-    check_taken(rt, link, 3, Some(&bytes[..taken.min(bytes.len())]));
-    check_taken(rt, link, 3, None);
+    for (count, taken) in [(0, 0), (255, 255), (256, 256), (257, 256), (600, 256)] {
+        let is_sent = sends_itself(socket, &bytes[..count.min(bytes.len())]);
+        let left = &bytes[..taken.min(bytes.len())];
+        let is_cut = takes(link, 3, Some(left)) && takes(link, 3, None);
+        check_number(rt, "bytes:", count as u64, is_sent && is_cut);
+    }
 }
 
 /// Whether a socket sends all these bytes to itself.
@@ -132,24 +128,24 @@ fn parties_beyond_the_last(rt: HostRuntime) {
     check_parties(&rt);
 }
 
-/// Parties with a socket and without one.
+/// The sockets of four parties, where there may be more.
 fn check_parties(rt: &impl Host) {
     let net = stand_in(rt, 255);
     let link = lasting_link(rt, net, 4, failures(rt));
-    assert!(rt; net.opened() == 4);
-    for party in [4, 5, 255, 0, 1, 2, 3] {
-        check_beyond(rt, link, party);
-    }
+    check(rt, net.opened() == 4, "four sockets");
+    check_beyond(rt, link);
 }
 
-fn check_beyond<L: Link>(rt: &impl Abort, link: &mut L, party: u8) {
-    let own = [party];
-    check_taken(rt, link, party, None);
-    assert!(rt;
-        sends(rt, link, party, &own) == (party < 4),
-        "party {party}"
-    );
-    check_taken(rt, link, party, if party < 4 { Some(&own) } else { None });
+/// Parties with a socket and without one.
+fn check_beyond<L: Link>(rt: &impl Abort, link: &mut L) {
+    for party in [4, 5, 255, 0, 1, 2, 3] {
+        let (own, has_socket) = ([party], party < 4);
+        check_taken(rt, link, party, None);
+        let is_sent = sends(rt, link, party, &own);
+        check_number(rt, "to party", party.into(), is_sent == has_socket);
+        let taken: Option<&[u8]> = if has_socket { Some(&own) } else { None };
+        check_taken(rt, link, party, taken);
+    }
 }
 
 /// Where the process may not have as many open files as there are parties, there is no link: it
@@ -180,7 +176,7 @@ const TOO_FEW: &str = "\
 fn check_sockets(rt: &impl Host, sockets: usize, line: &str) {
     let failures = failures(rt);
     let is_so = comes_to(stand_in(rt, sockets), sockets >= 4, failures);
-    assert!(rt; is_so, "{sockets} sockets");
+    check_number(rt, "sockets:", sockets as u64, is_so);
     check_told(rt, failures, "", line);
 }
 
@@ -202,16 +198,13 @@ fn sockets_come_before_the_match(rt: HostRuntime) {
 fn check_first(rt: &impl Host) {
     let folder = new_folder(rt, "sockets-first");
     for length in [0, 1, 100] {
-        check_no_socket(rt, folder, length);
+        let text = lasting(rt, Vec::new(rt.alloc()));
+        let refused = refusal(stand_in(rt, 3), length, folder, failures(rt), text);
+        let is_so = refused == Some(LoopFault::Socket) && text.is_empty();
+        check_number(rt, "length", length.into(), is_so);
     }
     // It is empty: else it is not removed so.
     fs::remove_dir(rt.host(), folder).expect(rt, "an empty folder");
-}
-
-fn check_no_socket(rt: &impl Host, folder: &str, length: u8) {
-    let text = lasting(rt, Vec::new(rt.alloc()));
-    let refused = refusal(stand_in(rt, 3), length, folder, failures(rt), text);
-    assert!(rt; refused == Some(LoopFault::Socket) && text.is_empty());
 }
 
 /// Why no match of this length is played over these sockets.

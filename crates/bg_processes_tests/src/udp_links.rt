@@ -1,5 +1,6 @@
 //! Sockets of a match among those of others, and what is noted of sockets that fail.
-use crate::helpers::devices::{failures, keeper, lasting_link, link};
+use crate::checks::{check, check_number};
+use crate::helpers::devices::{failures, lasting_link};
 use crate::helpers::folders::{new_folder, remove_folder};
 use crate::helpers::hosts::{Host, Hosted};
 use crate::helpers::lasting::lasting;
@@ -7,13 +8,12 @@ use crate::helpers::party_scripts::sends;
 use crate::helpers::played_loops::{SEED, SHORT, played};
 use crate::helpers::stand_ins::{StandIn, stand_in};
 use crate::helpers::told_failures::told;
-use bg_auto::{LoopFault, Observer, PARTIES, play_rounds};
+use bg_auto::{LoopFault, Observer};
 use bg_match::{Number, Rules};
-use bg_processes::{Failures, FileKeeper, UdpLink};
+use bg_processes::{Failures, UdpLink, play_loop};
 use bg_streams::Writing;
-use bg_wire::{REFEREE, SEAT_OF_O, SEAT_OF_X, decode};
-use bg_world::{Event, Keeper, Keepers, Link, Outcome};
-use std::alloc::Global;
+use bg_wire::decode;
+use bg_world::{Event, Link, Outcome};
 use std::net::{Ipv4Addr, SocketAddr, UdpSocket};
 use std::process::Abort;
 
@@ -41,14 +41,27 @@ const FORGED: [&[u8]; 5] = [
 #[derive(Drop)]
 struct Forger<'a> {
     socket: &'a UdpSocket,
-    addresses: [SocketAddr; 4],
+    net: &'a StandIn<'a>,
+    /// How many packets it has sent.
+    sent: u64,
+}
+
+impl<'a> Forger<'a> {
+    /// Sends all packets to a party.
+    fn send_all(&mut self, address: SocketAddr) {
+        for packet in &FORGED {
+            if self.socket.send_to(*packet, address).is_ok() {
+                self.sent = self.sent.wrapping_add(1);
+            }
+        }
+    }
 }
 
 impl<'a> Observer for Forger<'a> {
     fn happened(&mut self, _event: &Event, _outcome: &Outcome, _held: Option<Number>) {
-        for address in &self.addresses {
-            for packet in &FORGED {
-                let _ = self.socket.send_to(*packet, *address);
+        for index in 0..4 {
+            if let Some(address) = self.net.address(index) {
+                self.send_all(address);
             }
         }
     }
@@ -62,65 +75,36 @@ fn stranger<'a>(rt: &impl Host) -> &'a UdpSocket {
     lasting(rt, socket.expect(rt, "a socket"))
 }
 
-/// A forger who knows the addresses of four sockets.
-fn lasting_forger<'a>(rt: &impl Host, net: &StandIn<'_>) -> &'a mut Forger<'a> {
-    let addresses = [
-        net.address(rt, 0),
-        net.address(rt, 1),
-        net.address(rt, 2),
-        net.address(rt, 3),
-    ];
-    let socket = stranger(rt);
-    lasting(rt, Forger { socket, addresses })
-}
-
-/// The files of three parties.
-fn keepers<'a, R: Host>(
-    rt: &'a R,
-    folder: &str,
-    failures: &'a Failures,
-) -> Keepers<FileKeeper<'a, HostRuntime>> {
-    Keepers {
-        referee: keeper(rt, rt.host(), folder, REFEREE, failures),
-        x: keeper(rt, rt.host(), folder, SEAT_OF_X, failures),
-        o: keeper(rt, rt.host(), folder, SEAT_OF_O, failures),
-    }
-}
-
-/// What is printed of sixty rounds, while a forger looks on.
+/// What is printed of sixty rounds, while a forger sends to each party after each event.
 fn besieged<'a>(rt: &'a impl Host, folder: &str) -> &'a [u8] {
-    let failures = failures(rt);
     let net = stand_in(rt, 4);
     let text = lasting(rt, Vec::new(rt.alloc()));
-    let link = link(rt, net, PARTIES, failures);
-    let ended = play_sixty(
-        rt.alloc(),
-        link,
-        keepers(rt, folder, failures),
-        text,
-        lasting_forger(rt, net),
-    );
-    ended.expect(rt, "sixty rounds");
+    let mut forger = Forger {
+        socket: stranger(rt),
+        net,
+        sent: 0,
+    };
+    let ended = play_sixty(net, folder, text, &mut forger);
+    check(rt, ended.is_ok(), "sixty rounds");
+    check_number(rt, "forged packets:", forger.sent, forger.sent >= 1000);
     text.as_slice()
 }
 
-fn play_sixty<L: Link + Drop, K: Keeper + Drop>(
-    alloc: Global,
-    link: L,
-    keepers: Keepers<K>,
+fn play_sixty(
+    net: &StandIn<'_>,
+    folder: &str,
     text: &mut Vec<u8>,
     forger: &mut Forger<'_>,
 ) -> Result<(), LoopFault> {
-    let mut output = Writing::new(text);
-    let rules = Rules::One;
-    play_rounds(
-        alloc,
+    let (mut output, rules) = (Writing::new(text), Rules::One);
+    play_loop(
+        net,
         SEED,
         1,
         rules,
         60,
-        link,
-        keepers,
+        folder,
+        &Failures::new(),
         &mut output,
         forger,
     )
@@ -134,13 +118,13 @@ fn forged_packets_change_nothing(rt: HostRuntime) {
 /// A match among forged packets is the quiet one.
 fn check_forged(rt: &impl Host) {
     for packet in &FORGED {
-        assert!(rt; decode(*packet).is_ok());
+        check(rt, decode(*packet).is_ok(), "a packet");
     }
     let quiet = new_folder(rt, "quiet");
     let expected = played(rt, quiet, SEED, SHORT, 60);
     remove_folder(rt, quiet);
     let folder = new_folder(rt, "besieged");
-    assert!(rt; besieged(rt, folder) == expected);
+    check(rt, besieged(rt, folder) == expected, "the quiet match");
     remove_folder(rt, folder);
 }
 
@@ -163,12 +147,20 @@ fn closed(rt: &impl Host) -> SocketAddr {
 }
 
 /// So many failures were noted, whose lines begin so.
-fn check_noted(rt: &impl Host, failures: &Failures, lines: &[&str]) {
+fn check_noted(rt: &impl Host, failures: &Failures, lines: &str) {
     let noted = told(rt, failures, "");
-    assert!(rt; noted.lines().count() == lines.len(), "{noted}");
-    for (line, wanted) in noted.lines().zip(lines) {
-        assert!(rt; line.starts_with(*wanted), "{line}");
+    let are_as_many = noted.lines().count() == lines.lines().count();
+    check(rt, are_as_many && begin_so(noted, lines), noted);
+}
+
+/// Whether lines begin as these.
+fn begin_so(lines: &str, begun: &str) -> bool {
+    for (line, wanted) in lines.lines().zip(begun.lines()) {
+        if !line.starts_with(wanted) {
+            return false;
+        }
     }
+    true
 }
 
 /// The party sends a byte to itself. Whether that does not fail.
@@ -176,26 +168,34 @@ fn sends_byte<L: Link>(rt: &impl Abort, link: &mut L, party: u8) -> bool {
     sends(rt, link, party, &[party])
 }
 
-/// The two parties without an end fail at what follows a send.
-fn check_broken<L: Link>(rt: &impl Abort, link: &mut L, is_read: bool) {
-    for party in 0..3 {
-        assert!(rt; sends_byte(rt, link, party));
-        let goes_on = if is_read {
-            link.take(party, 0).is_ok()
-        } else {
-            sends_byte(rt, link, party)
-        };
-        assert!(rt; goes_on == (party == 2), "party {party}");
+/// So often the two parties without an end fail at what follows a send: a read, or another send.
+fn check_broken<L: Link>(rt: &impl Abort, link: &mut L, times: u32, is_read: bool) {
+    for _ in 0..times {
+        for party in 0..3 {
+            let is_sent = sends_byte(rt, link, party);
+            let goes_on = if is_read {
+                link.take(party, 0).is_ok()
+            } else {
+                sends_byte(rt, link, party)
+            };
+            let is_so = is_sent && goes_on == (party == 2);
+            check_number(rt, "party", party.into(), is_so);
+        }
     }
 }
 
 /// A send that succeeded lies between two that failed, so that each of these is noted.
-const UNSENT: [&str; 4] = [
-    "no datagram could be sent to party 0: ",
-    "no datagram could be sent to party 1: ",
-    "no datagram could be sent to party 0: ",
-    "no datagram could be sent to party 1: ",
-];
+const UNSENT: &str = "\
+no datagram could be sent to party 0:\x20
+no datagram could be sent to party 1:\x20
+no datagram could be sent to party 0:\x20
+no datagram could be sent to party 1:\x20
+";
+
+const UNREAD: &str = "\
+the socket of party 0 could not be read:\x20
+the socket of party 1 could not be read:\x20
+";
 
 #[test]
 fn each_socket_notes_that_it_fails(rt: HostRuntime) {
@@ -206,20 +206,11 @@ fn each_socket_notes_that_it_fails(rt: HostRuntime) {
 fn check_notes(rt: &impl Host) {
     let failures = failures(rt);
     let link = broken(rt, failures);
-    for _ in 0..3 {
-        check_broken(rt, link, true);
-    }
-    check_noted(rt, failures, &UNREAD);
-    for _ in 0..2 {
-        check_broken(rt, link, false);
-    }
-    check_noted(rt, failures, &UNSENT);
+    check_broken(rt, link, 3, true);
+    check_noted(rt, failures, UNREAD);
+    check_broken(rt, link, 2, false);
+    check_noted(rt, failures, UNSENT);
 }
-
-const UNREAD: [&str; 2] = [
-    "the socket of party 0 could not be read: ",
-    "the socket of party 1 could not be read: ",
-];
 
 #[test]
 fn a_party_without_a_socket(rt: HostRuntime) {
@@ -230,14 +221,15 @@ fn a_party_without_a_socket(rt: HostRuntime) {
 fn check_missing(rt: &impl Host) {
     let failures = failures(rt);
     let link = lasting_link(rt, rt.host(), 2, failures);
-    for _ in 0..2 {
-        check_without(rt, link);
-    }
-    check_noted(rt, failures, &["no datagram could be sent to party 2: "]);
+    check_without(rt, link);
+    let line = "no datagram could be sent to party 2: ";
+    check_noted(rt, failures, line);
 }
 
 fn check_without<L: Link>(rt: &impl Abort, link: &mut L) {
-    assert!(rt; !sends_byte(rt, link, 2));
-    assert!(rt; sends_byte(rt, link, 1));
-    assert!(rt; link.take(2, 0) == Ok(None));
+    for when in ["the first time", "the second time"] {
+        check(rt, !sends_byte(rt, link, 2), when);
+        check(rt, sends_byte(rt, link, 1), when);
+        check(rt, link.take(2, 0) == Ok(None), when);
+    }
 }

@@ -1,10 +1,13 @@
 //! Want of memory: no run of the tests refuses a growth, but `tools/checks/refuse_growths` refuses
 //! each in turn.
+use crate::checks::{check_number, check_row};
 use crate::keepers::{Shelf, ShelfKeeper};
+use crate::matches::settle;
 use bg_auto::auto_action;
 use bg_hosted::HostedMatch;
 use bg_match::{Actor, Rules, Terms};
 use bg_stores::LongTexts;
+use bg_world::Keeper;
 use std::alloc::Global;
 use std::process::Abort;
 
@@ -16,24 +19,18 @@ fn refused_growths_of_a_hosted_match(rt: HostRuntime) {
 
 fn check_growths(rt: &(impl Abort + AllocGlobal)) {
     let shelf = Shelf::new(rt.alloc());
-    let mut hosted = begun_at_last(rt, &shelf);
-    play(rt, &mut hosted, 1);
-    let mut again = begun_at_last(rt, &shelf);
-    play(rt, &mut again, 4);
-    drop(again);
-    drop(hosted);
+    check_life(rt, &shelf, 1);
+    check_life(rt, &shelf, 4);
     check_no_growth_is_left(rt);
 }
 
-/// The match that goes on from what a shelf has, by a second try where the first lacked memory.
-fn begun_at_last<'a>(
-    rt: &(impl Abort + AllocGlobal),
-    shelf: &'a Shelf,
-) -> HostedMatch<ShelfKeeper<'a>> {
-    match begun(rt.alloc(), shelf) {
+/// The match goes on from what a shelf has, by a second try where the first lacked memory.
+fn check_life(rt: &(impl Abort + AllocGlobal), shelf: &Shelf, first: u32) {
+    let mut hosted = match begun(rt.alloc(), shelf) {
         Some(hosted) => hosted,
         None => begun(rt.alloc(), shelf).expect(rt, "memory"),
-    }
+    };
+    check_played(rt, &mut hosted, first);
 }
 
 fn begun(alloc: Global, shelf: &Shelf) -> Option<HostedMatch<ShelfKeeper<'_>>> {
@@ -45,25 +42,20 @@ fn begun(alloc: Global, shelf: &Shelf) -> Option<HostedMatch<ShelfKeeper<'_>>> {
 }
 
 /// Three entries come about, the first one under this number or above it.
-fn play(rt: &(impl Abort + AllocGlobal), hosted: &mut HostedMatch<ShelfKeeper<'_>>, first: u32) {
+fn check_played<K: Keeper>(
+    rt: &(impl Abort + AllocGlobal),
+    hosted: &mut HostedMatch<K>,
+    first: u32,
+) {
     settle(hosted);
-    assert!(rt; hosted.told() >= first, "{first} entries");
+    check_number(rt, "entries that were told:", first, hosted.told() >= first);
     for _ in 0..3u32 {
-        act_at_last(rt, hosted);
-    }
-}
-
-/// Ticks until nothing is left to do, or for so long.
-fn settle(hosted: &mut HostedMatch<ShelfKeeper<'_>>) {
-    for _ in 0..80u32 {
-        if hosted.is_restless() {
-            hosted.tick();
-        }
+        check_entry(rt, hosted);
     }
 }
 
 /// The next entry comes about, by a further try where there was no memory for it.
-fn act_at_last(rt: &(impl Abort + AllocGlobal), hosted: &mut HostedMatch<ShelfKeeper<'_>>) {
+fn check_entry<K: Keeper>(rt: &(impl Abort + AllocGlobal), hosted: &mut HostedMatch<K>) {
     let number = hosted.told().saturating_add(1);
     for _ in 0..3u32 {
         if hosted.told() < number {
@@ -71,11 +63,11 @@ fn act_at_last(rt: &(impl Abort + AllocGlobal), hosted: &mut HostedMatch<ShelfKe
             settle(hosted);
         }
     }
-    assert!(rt; hosted.told() >= number, "entry {number}");
+    check_number(rt, "entry", number, hosted.told() >= number);
 }
 
 /// Who is to act does as an entry what an automatic player would do.
-fn act(alloc: Global, hosted: &mut HostedMatch<ShelfKeeper<'_>>, number: u32) {
+fn act<K: Keeper>(alloc: Global, hosted: &mut HostedMatch<K>, number: u32) {
     let Some(record) = hosted.shown() else {
         return;
     };
@@ -99,7 +91,7 @@ fn check_too_long(rt: &(impl Abort + AllocGlobal)) {
         let _ = long.check("long/party-0.1", 450_001);
     }
     let is_told = long.next_untold().is_some() || long.next_untold().is_some();
-    assert!(rt; is_told, "the match is told");
+    check_row(rt, "the match is told", is_told);
     check_no_growth_is_left(rt);
 }
 
@@ -107,5 +99,5 @@ fn check_too_long(rt: &(impl Abort + AllocGlobal)) {
 /// many came before.
 fn check_no_growth_is_left(rt: &(impl Abort + AllocGlobal)) {
     let growth = Vec::<u8>::with_capacity(rt.alloc(), 1);
-    assert!(rt; growth.is_ok(), "no growth is left");
+    check_row(rt, "no growth is left", growth.is_ok());
 }

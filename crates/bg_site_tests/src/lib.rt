@@ -2,6 +2,8 @@
 #![tactic(auto)]
 
 #[cfg(test)]
+mod checks;
+#[cfg(test)]
 mod frames;
 #[cfg(test)]
 mod growths;
@@ -15,6 +17,8 @@ mod lasting;
 mod matches;
 #[cfg(test)]
 mod operators;
+#[cfg(test)]
+mod plays;
 #[cfg(test)]
 mod queues;
 #[cfg(test)]

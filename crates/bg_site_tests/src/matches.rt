@@ -1,10 +1,12 @@
 //! Hosted matches: to the end, over restarts, and where saves fail.
+use crate::checks::{check_number, check_row};
 use crate::keepers::{Shelf, ShelfKeeper, lasting_shelf};
 use crate::lasting::lasting;
 use bg_auto::auto_action;
 use bg_board::Player;
 use bg_hosted::{Acted, HostedMatch};
 use bg_match::{Action, Actor, Level, Rules, Terms};
+use bg_world::Keeper;
 use std::process::Abort;
 
 const KEY: [u8; 32] = [3; 32];
@@ -23,78 +25,67 @@ fn begin<'a>(
     lasting(rt, hosted.expect(rt, "memory"))
 }
 
-/// Who acts, and what an automatic player would do, which lasts as long as the process.
-fn next<'a>(
+/// Who acts, if anybody does, the number of the entry, and what an automatic player would do, which
+/// lasts as long as the process.
+fn next<'a, K: Keeper>(
     rt: &(impl Abort + AllocGlobal),
-    hosted: &HostedMatch<ShelfKeeper<'_>>,
+    hosted: &HostedMatch<K>,
 ) -> Option<(Player, u32, &'a Action)> {
     let record = hosted.shown()?;
     let Actor::Seat(player) = record.actor() else {
         return None;
     };
     let action = auto_action(rt.alloc(), record, player).expect(rt, "memory")?;
-    let action: &Action = lasting(rt, action);
-    Some((player, record.len() + 1, action))
+    Some((player, record.len() + 1, lasting(rt, action)))
 }
 
-/// What it comes to that a player does this as an entry.
-fn act(
-    hosted: &mut HostedMatch<ShelfKeeper<'_>>,
+/// The turn, again, comes to this, and then its entry is told or isn't.
+fn check_act<K: Keeper>(
+    rt: &impl Abort,
+    hosted: &mut HostedMatch<K>,
     player: Player,
     number: u32,
     action: &Action,
-) -> Acted {
-    hosted.act(player, number, action.copy())
-}
-
-/// All is told up to an entry at least, and nothing is left to do.
-fn check_told(rt: &impl Abort, hosted: &HostedMatch<ShelfKeeper<'_>>, number: u32) {
-    assert!(rt;
-        hosted.told() >= number && !hosted.is_restless(),
-        "entry {number}"
-    );
+    wanted: Acted,
+    is_told: bool,
+) {
+    let acted = hosted.act(player, number, action.copy());
+    let is_so = acted == wanted && (hosted.told() >= number) == is_told;
+    check_number(rt, "acting as entry", number, is_so);
 }
 
 #[test]
 fn a_match_is_played_to_its_end(rt: HostRuntime) {
-    check_whole(&rt);
+    check_whole(&rt, begin(&rt, lasting_shelf(&rt), 3));
 }
 
-fn check_whole(rt: &(impl Abort + AllocGlobal)) {
-    let hosted = begin(rt, lasting_shelf(rt), 3);
-    assert!(rt; hosted.told() == 1 && !hosted.is_restless(), "the opening");
+fn check_whole<K: Keeper>(rt: &(impl Abort + AllocGlobal), hosted: &mut HostedMatch<K>) {
+    let is_open = hosted.told() == 1 && !hosted.is_restless();
+    check_row(rt, "the opening is told", is_open);
     for _ in 0..5000u32 {
-        let Some((player, number, action)) = next(rt, hosted) else {
-            break;
-        };
-        check_action(rt, hosted, player, number, action);
+        check_next(rt, hosted);
     }
-    assert!(rt; hosted.is_over(), "it is over");
+    check_row(rt, "the match is over", hosted.is_over());
 }
 
-/// A player does this as an entry. Again it acts no more, and another action is not that entry.
-fn check_action(
-    rt: &impl Abort,
-    hosted: &mut HostedMatch<ShelfKeeper<'_>>,
-    player: Player,
-    number: u32,
-    action: &Action,
-) {
-    assert!(rt;
-        act(hosted, player, number, action) == Acted::Done,
-        "entry {number}"
-    );
-    check_told(rt, hosted, number);
+/// Who acts, if anybody does, does what an automatic player would do: all is told then, and nothing
+/// is left to do. Again it acts no more, and another action is not that entry.
+fn check_next<K: Keeper>(rt: &(impl Abort + AllocGlobal), hosted: &mut HostedMatch<K>) {
+    let Some((player, number, action)) = next(rt, hosted) else {
+        return;
+    };
+    check_act(rt, hosted, player, number, action, Acted::Done, true);
     let told = hosted.told();
-    assert!(rt;
-        act(hosted, player, number, action) == Acted::Done,
-        "{number} again"
+    check_number(
+        rt,
+        "nothing is left to do at entry",
+        number,
+        !hosted.is_restless(),
     );
+    check_act(rt, hosted, player, number, action, Acted::Done, true);
     let other = hosted.act(player.opponent(), number, Action::Drop);
-    assert!(rt;
-        other == Acted::OtherEntry && hosted.told() == told,
-        "not {number}"
-    );
+    let is_other = other == Acted::OtherEntry && hosted.told() == told;
+    check_number(rt, "another action for entry", number, is_other);
 }
 
 #[test]
@@ -106,46 +97,50 @@ fn check_restarts(rt: &(impl Abort + AllocGlobal)) {
     let shelf = lasting_shelf(rt);
     let mut told = 0;
     for _ in 0..40u32 {
-        let hosted = begin(rt, shelf, 3);
-        assert!(rt; hosted.told() >= told, "{told} entries were told");
-        for _ in 0..3u32 {
-            check_next(rt, hosted);
-        }
-        told = hosted.told();
+        told = told_in_life(rt, begin(rt, shelf, 3), told);
     }
-    assert!(rt; told > 40, "{told} entries");
+    check_number(rt, "more than 40 entries, not", told, told > 40);
 }
 
-/// Who acts, if anybody does, does what an automatic player would do.
-fn check_next(rt: &(impl Abort + AllocGlobal), hosted: &mut HostedMatch<ShelfKeeper<'_>>) {
-    if let Some((player, number, action)) = next(rt, hosted) {
-        assert!(rt;
-            act(hosted, player, number, action) == Acted::Done,
-            "entry {number}"
-        );
+/// How many entries are told after three turns of a match in which so many were told before.
+fn told_in_life<K: Keeper>(
+    rt: &(impl Abort + AllocGlobal),
+    hosted: &mut HostedMatch<K>,
+    before: u32,
+) -> u32 {
+    check_number(
+        rt,
+        "entries that were told:",
+        before,
+        hosted.told() >= before,
+    );
+    for _ in 0..3u32 {
+        check_next(rt, hosted);
     }
+    hosted.told()
 }
 
 #[test]
 fn a_save_that_fails_is_made_good(rt: HostRuntime) {
-    check_failing(&rt);
+    let shelf = lasting_shelf(&rt);
+    check_failing(&rt, shelf, begin(&rt, shelf, 5));
 }
 
-fn check_failing(rt: &(impl Abort + AllocGlobal)) {
-    let shelf = lasting_shelf(rt);
-    let hosted = begin(rt, shelf, 5);
+fn check_failing<K: Keeper>(
+    rt: &(impl Abort + AllocGlobal),
+    shelf: &Shelf,
+    hosted: &mut HostedMatch<K>,
+) {
     for good in [0u32, 1, 2, 0, 1, 1, 0, 2] {
         shelf.fail_after(good);
         for _ in 0..4u32 {
-            if let Some((player, number, action)) = next(rt, hosted) {
-                check_made_good(rt, hosted, player, number, action);
-            }
+            check_made_good(rt, hosted);
         }
     }
 }
 
 /// Ticks until nothing is left to do, or for so long.
-fn settle(hosted: &mut HostedMatch<ShelfKeeper<'_>>) {
+pub(crate) fn settle<K: Keeper>(hosted: &mut HostedMatch<K>) {
     for _ in 0..80u32 {
         if hosted.is_restless() {
             hosted.tick();
@@ -153,67 +148,57 @@ fn settle(hosted: &mut HostedMatch<ShelfKeeper<'_>>) {
     }
 }
 
-/// A player does this as an entry, by this call or by what follows.
-fn check_made_good(
-    rt: &impl Abort,
-    hosted: &mut HostedMatch<ShelfKeeper<'_>>,
-    player: Player,
-    number: u32,
-    action: &Action,
-) {
-    let acted = act(hosted, player, number, action);
+/// Who acts, if anybody does, acts by this call or by what follows. Sent again, it is done: by this
+/// call, or it was by the first one.
+fn check_made_good<K: Keeper>(rt: &(impl Abort + AllocGlobal), hosted: &mut HostedMatch<K>) {
+    let Some((player, number, action)) = next(rt, hosted) else {
+        return;
+    };
+    let acted = hosted.act(player, number, action.copy());
     settle(hosted);
     let is_settled = acted != Acted::OtherEntry && !hosted.is_restless();
-    assert!(rt; is_settled, "entry {number}");
-    // Sent again, it is done: by this call, or it was by the first one.
-    assert!(rt;
-        act(hosted, player, number, action) == Acted::Done,
-        "{number} again"
-    );
+    check_number(rt, "nothing is left to do at entry", number, is_settled);
+    check_act(rt, hosted, player, number, action, Acted::Done, true);
 }
 
 #[test]
 fn a_claim_whose_entry_is_not_saved(rt: HostRuntime) {
-    check_waiting(&rt);
+    let shelf = lasting_shelf(&rt);
+    check_waiting(&rt, shelf, begin(&rt, shelf, 1));
 }
 
 /// Such an action waits. Another one under its number isn't taken for it, and sent again it goes
 /// on.
-fn check_waiting(rt: &(impl Abort + AllocGlobal)) {
-    let shelf = lasting_shelf(rt);
-    let hosted = begin(rt, shelf, 1);
+fn check_waiting<K: Keeper>(
+    rt: &(impl Abort + AllocGlobal),
+    shelf: &Shelf,
+    hosted: &mut HostedMatch<K>,
+) {
     let (player, number, action) = next(rt, hosted).expect(rt, "a player's turn");
+    let other = lasting(rt, Action::Resign(Level::Backgammon));
     shelf.fail_after(1);
-    let acted = act(hosted, player, number, action);
-    assert!(rt; acted == Acted::Waits && hosted.told() < number, "it waits");
-    let other = hosted.act(player, number, Action::Resign(Level::Backgammon));
-    assert!(rt;
-        other == Acted::OtherEntry && hosted.told() < number,
-        "another one"
-    );
-    let again = act(hosted, player, number, action);
-    assert!(rt;
-        again == Acted::Done && hosted.told() >= number,
-        "sent again"
-    );
+    check_act(rt, hosted, player, number, action, Acted::Waits, false);
+    check_act(rt, hosted, player, number, other, Acted::OtherEntry, false);
+    check_act(rt, hosted, player, number, action, Acted::Done, true);
 }
 
 #[test]
 fn numbers_and_actions_that_do_not_follow(rt: HostRuntime) {
-    check_refused(&rt);
+    check_refused(&rt, begin(&rt, lasting_shelf(&rt), 1));
 }
 
-fn check_refused(rt: &(impl Abort + AllocGlobal)) {
-    let hosted = begin(rt, lasting_shelf(rt), 1);
+fn check_refused<K: Keeper>(rt: &impl Abort, hosted: &mut HostedMatch<K>) {
     let told = hosted.told();
     for number in [0, 1, 3, u32::MAX] {
-        let acted = act(hosted, Player::X, number, &Action::Roll);
-        assert!(rt; acted == Acted::OtherEntry, "entry {number}");
+        let acted = hosted.act(Player::X, number, Action::Roll);
+        check_number(rt, "rolling as entry", number, acted == Acted::OtherEntry);
     }
     let number = told.saturating_add(1);
-    for player in [Player::X, Player::O] {
-        let acted = act(hosted, player, number, &Action::Take);
-        assert!(rt; matches!(acted, Acted::Refused(_)), "{player:?}");
-    }
-    assert!(rt; hosted.told() == told, "nothing more is told");
+    let (x, o) = (
+        hosted.act(Player::X, number, Action::Take),
+        hosted.act(Player::O, number, Action::Take),
+    );
+    check_row(rt, "X can't take", matches!(x, Acted::Refused(_)));
+    check_row(rt, "O can't take", matches!(o, Acted::Refused(_)));
+    check_row(rt, "nothing more is told", hosted.told() == told);
 }

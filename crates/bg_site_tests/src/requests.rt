@@ -1,12 +1,14 @@
 //! What requests are answered, by their bytes.
-use crate::keepers::{Shelf, ShelfKeeper, lasting_shelf};
+use crate::keepers::{Shelf, ShelfKeeper};
 use crate::lasting::lasting;
+use crate::plays::check_play;
 use bg_match::{Record, Terms};
 use bg_site::{Found, Made, Seats, Site, Store, digest_of};
 use bg_system::Names;
-use http_server::{Config, Connection};
+use http_server::{Config, Connection, Service};
 use std::alloc::{AllocError, Global};
 use std::hash::RandomState;
+use std::io;
 use std::process::Abort;
 
 /// A store that makes matches over one shelf, each with the same secrets.
@@ -17,32 +19,26 @@ pub(crate) struct OneShelf<'a> {
 }
 
 impl<'a> OneShelf<'a> {
-    pub(crate) fn made(
-        &self,
-        terms: Terms,
-        names: Names,
-    ) -> Result<Made<ShelfKeeper<'a>>, AllocError> {
-        let seats = Seats {
-            x: digest_of("of x"),
-            o: digest_of("of o"),
-        };
+    fn made(&self, terms: Terms, names: Names) -> Result<Made<ShelfKeeper<'a>>, AllocError> {
+        let name = String::from_str(self.alloc, "made")?;
+        let x = String::from_str(self.alloc, "of x")?;
+        let o = String::from_str(self.alloc, "of o")?;
         let found = Found {
-            name: String::from_str(self.alloc, "made")?,
+            name,
             names,
             id: 7,
             terms,
-            seats: Some(seats),
+            seats: Some(Seats {
+                x: digest_of("of x"),
+                o: digest_of("of o"),
+            }),
             key: [3; 32],
             digest: Some(bg_dice::digest_of(&[3; 32])),
             keepers: self.shelf.keepers(),
             is_hidden: false,
             quiet_minutes: 0,
         };
-        Ok(Made {
-            found,
-            x: String::from_str(self.alloc, "of x")?,
-            o: String::from_str(self.alloc, "of o")?,
-        })
+        Ok(Made { found, x, o })
     }
 }
 
@@ -60,15 +56,17 @@ impl<'a> Store<ShelfKeeper<'a>> for OneShelf<'a> {
     }
 }
 
-/// A site without matches, which lasts as long as the process.
-pub(crate) fn lasting_site<'a>(
+/// A store over a shelf, which lasts as long as the process.
+pub(crate) fn lasting_store<'a>(
     rt: &(impl AllocGlobal + Abort),
-) -> &'a mut Site<ShelfKeeper<'a>, OneShelf<'a>> {
-    lasting_site_over(rt, lasting_shelf(rt))
+    shelf: &'a Shelf,
+) -> &'a mut OneShelf<'a> {
+    let alloc = rt.alloc();
+    lasting(rt, OneShelf { alloc, shelf })
 }
 
 /// A site without matches over a shelf, which lasts as long as the process.
-pub(crate) fn lasting_site_over<'a>(
+pub(crate) fn lasting_site<'a>(
     rt: &(impl AllocGlobal + Abort),
     shelf: &'a Shelf,
 ) -> &'a mut Site<ShelfKeeper<'a>, OneShelf<'a>> {
@@ -77,74 +75,83 @@ pub(crate) fn lasting_site_over<'a>(
 }
 
 /// The bytes of the answer to a request, which last as long as the process.
-pub(crate) fn answer_to<'a, 's>(
+pub(crate) fn answer_to<'a, S: Service>(
     rt: &(impl AllocGlobal + Abort),
     host: &HostRuntime,
-    site: &mut Site<ShelfKeeper<'s>, OneShelf<'s>>,
+    site: &mut S,
     request: &str,
 ) -> &'a str {
     let keys = RandomState::new(host).expect(rt, "random bytes");
-    let connection = Connection::new(rt.alloc(), keys, Config::default());
-    let answer = talk(
-        lasting(rt, connection),
-        site,
-        request.as_bytes(),
-        rt.alloc(),
-    );
-    str::from_utf8(answer.expect(rt, "memory").leak()).unwrap_or("no text")
+    let connection = lasting(rt, Connection::new(rt.alloc(), keys, Config::default()));
+    let mut answer = Vec::new(rt.alloc());
+    let talked = talk(connection, site, request.as_bytes(), &mut answer);
+    talked.expect(rt, "memory");
+    str::from_utf8(answer.leak()).unwrap_or("no text")
 }
 
 /// The largest number of reads of a request, and of writes of its answer.
 const MOST_TURNS: u32 = 100;
 
-/// Hands in a request, and returns what is answered.
-fn talk<'s>(
+/// Hands in a request, and takes what is answered.
+fn talk<S: Service>(
     connection: &mut Connection,
-    site: &mut Site<ShelfKeeper<'s>, OneShelf<'s>>,
+    site: &mut S,
     request: &[u8],
-    alloc: Global,
-) -> std::io::Result<Vec<u8>> {
-    let (mut left, mut answer) = (request, Vec::new(alloc));
+    answer: &mut Vec<u8>,
+) -> io::Result<()> {
+    let mut left = request;
     for _ in 0..MOST_TURNS {
-        if !connection.wants_read() || left.is_empty() {
-            break;
+        if connection.wants_read() && !left.is_empty() {
+            let _ = connection.read_from(&mut left)?;
+            connection.advance(site);
         }
-        let _ = connection.read_from(&mut left)?;
-        connection.advance(site);
-    }
-    for _ in 0..MOST_TURNS {
-        if !connection.wants_write() {
-            break;
+        if connection.wants_write() {
+            let _ = connection.write_to(answer)?;
         }
-        let _ = connection.write_to(&mut answer)?;
     }
-    Ok(answer)
+    Ok(())
 }
 
 /// A request for a path.
-pub(crate) fn get<'a>(rt: &(impl AllocGlobal + Abort), path: &str) -> &'a str {
+fn get<'a>(rt: &(impl AllocGlobal + Abort), path: &str) -> &'a str {
     let text = format!(in rt.alloc(); "GET {path} HTTP/1.1\r\nhost: a\r\n\r\n");
-    let text: &mut String = lasting(rt, text.expect(rt, "memory"));
-    text.as_str()
+    lasting(rt, text.expect(rt, "memory")).as_str()
 }
 
-/// A request that orders a match by this body.
-pub(crate) fn order<'a>(rt: &(impl AllocGlobal + Abort), body: &str) -> &'a str {
+/// A request that posts a body. Its head ends with a header whose value comes behind it.
+fn post<'a>(rt: &(impl AllocGlobal + Abort), head: &str, value: &str, body: &str) -> &'a str {
     let length = body.len();
-    let head =
-        "POST /matches HTTP/1.1\r\nhost: a\r\ncontent-type: application/json\r\ncontent-length:";
-    let text = format!(in rt.alloc(); "{head} {length}\r\n\r\n{body}");
-    let text: &mut String = lasting(rt, text.expect(rt, "memory"));
-    text.as_str()
+    let text = format!(in rt.alloc();
+        "POST /matches{head}{value}\r\nhost: a\r\ncontent-length: {length}\r\n\r\n{body}"
+    );
+    lasting(rt, text.expect(rt, "memory")).as_str()
 }
 
-/// A request that an action is carried out, by who has this secret.
-pub(crate) fn action<'a>(rt: &(impl AllocGlobal + Abort), secret: &str, body: &str) -> &'a str {
-    let length = body.len();
-    let head = "POST /matches/made/actions HTTP/1.1\r\nhost: a\r\nauthorization: Bearer";
-    let text = format!(in rt.alloc(); "{head} {secret}\r\ncontent-length: {length}\r\n\r\n{body}");
-    let text: &mut String = lasting(rt, text.expect(rt, "memory"));
-    text.as_str()
+/// The heads of requests that order a match, that order one with a key, and that an action is
+/// carried out, by who has a secret. `/matches` stands before them.
+const ORDER: &str = " HTTP/1.1\r\ncontent-type: ";
+
+const KEYED: &str = " HTTP/1.1\r\ncontent-type: application/json\r\nidempotency-key: ";
+
+const ACTION: &str = "/made/actions HTTP/1.1\r\nauthorization: Bearer ";
+
+/// A request for the WebSocket of whoever watches the match `made`.
+const WATCH: &str =
+    "GET /matches/made/live HTTP/1.1\r\nhost: a\r\nconnection: upgrade\r\nupgrade: websocket\r\nsec-websocket-version: 13\r\nsec-websocket-key: AAAAAAAAAAAAAAAAAAAAAA==\r\n\r\n";
+
+/// The request that words stand for: "get PATH"; "x ACTION" and "o ACTION", where the player of X
+/// or of O acts; "key KEY", where a match to one point is ordered with a key; "watch", where
+/// somebody wants to watch; or the body of an order.
+pub(crate) fn request_of<'a>(rt: &(impl AllocGlobal + Abort), words: &str) -> &'a str {
+    let (word, rest) = words.split_once(' ').unwrap_or((words, ""));
+    match word {
+        "get" => get(rt, rest),
+        "x" => post(rt, ACTION, "of x", rest),
+        "o" => post(rt, ACTION, "of o", rest),
+        "key" => post(rt, KEYED, rest, "{\"length\":1}"),
+        "watch" => WATCH,
+        _ => post(rt, ORDER, "application/json", words),
+    }
 }
 
 /// Bodies, and the status and the words of the answer.
@@ -174,53 +181,32 @@ const ORDERS: &str = r#"{"length":3} > 201 Created > "match":"made"
 #[test]
 fn orders_of_matches(rt: HostRuntime) {
     for row in ORDERS.lines() {
-        check_order(&rt, &rt, row);
+        check_play(&rt, &rt, row);
     }
-}
-
-fn check_order(rt: &(impl AllocGlobal + Abort), host: &HostRuntime, row: &str) {
-    let (body, status, words) = parts_of(row).expect(rt, "three parts");
-    let answer = answer_to(rt, host, lasting_site(rt), order(rt, body));
-    let is_right = answer.contains(status) && answer.contains(words);
-    assert!(rt; is_right, "{row} came to {answer}");
-}
-
-/// The three parts of a row.
-fn parts_of(row: &str) -> Option<(&str, &str, &str)> {
-    let (body, rest) = row.split_once(" > ")?;
-    let (status, words) = rest.split_once(" > ")?;
-    Some((body, status, words))
 }
 
 /// Keys of one order after the other, and how many matches there are then. Those of 16 bytes and
 /// more are remembered.
-const KEYS: [(&str, usize); 9] = [
-    ("0123456789abcdef", 1),
-    ("0123456789abcdef", 1),
-    ("0123456789abcdeg", 2),
-    ("easy", 3),
-    ("easy", 4),
-    ("0123456789abcde", 5),
-    ("0123456789abcde", 6),
-    ("äöüäöüäö", 7),
-    ("äöüäöüäö", 7),
-];
+const KEYS: &str = r#"key 0123456789abcdef > 201 Created > "match":"made"
+matches 1
+key 0123456789abcdef > 201 Created > "match":"made"
+matches 1
+key 0123456789abcdeg > 201 Created > "match":"made"
+matches 2
+key easy > 201 Created > "match":"made"
+matches 3
+key easy > 201 Created > "match":"made"
+matches 4
+key 0123456789abcde > 201 Created > "match":"made"
+matches 5
+key 0123456789abcde > 201 Created > "match":"made"
+matches 6
+key äöüäöüäö > 201 Created > "match":"made"
+matches 7
+key äöüäöüäö > 201 Created > "match":"made"
+matches 7"#;
 
 #[test]
 fn an_order_that_is_repeated_makes_no_other_match(rt: HostRuntime) {
-    let site = lasting_site(&rt);
-    for (key, matches) in KEYS {
-        let answer = answer_to(&rt, &rt, site, order_with(&rt, key));
-        let is_right = answer.contains("201 Created") && answer.contains("\"match\":\"made\"");
-        assert!(rt; is_right && site.len() == matches, "{key} came to {answer}");
-    }
-}
-
-/// A request that orders a match, and has this key.
-fn order_with<'a>(rt: &(impl AllocGlobal + Abort), key: &str) -> &'a str {
-    let head = "POST /matches HTTP/1.1\r\nhost: a\r\ncontent-type: application/json";
-    let rest = "content-length: 12\r\n\r\n{\"length\":1}";
-    let text = format!(in rt.alloc(); "{head}\r\nidempotency-key: {key}\r\n{rest}");
-    let text: &mut String = lasting(rt, text.expect(rt, "memory"));
-    text.as_str()
+    check_play(&rt, &rt, KEYS);
 }

@@ -4,7 +4,7 @@ use crate::keepers::{Shelf, ShelfKeeper, lasting_shelf};
 use bg_board::{Die, Player};
 use bg_dice::{Ruling, digest_of, drawn_behind, ruling_of, told_text};
 use bg_hosted::{Acted, HostedMatch};
-use bg_journal::{Change, FileText, Journal};
+use bg_journal::{Change, Error, FileText, Journal};
 use bg_match::{Action, Entry, Record, Rules, Terms};
 use bg_pages::{Page, answer_page};
 use bg_processes::Failures;
@@ -14,13 +14,16 @@ use bg_site::{Found, Made, Site, Store};
 use bg_states::state_text;
 use bg_stores::{Known, parts_of};
 use bg_system::Names;
+use bg_world::WorldFault;
 use http_server::{Config, Connection, Response};
+use std::alloc::AllocError;
 use std::hash::RandomState;
+use std::io;
 use std::process::Abort;
 use std::test::Fail;
 
 #[test]
-fn hosted_matches(rt: HostRuntime) -> Result<(), Fail> {
+fn hosted_matches(rt: HostRuntime) -> Result<(), WorldFault> {
     let alloc = rt.alloc();
     let keepers = lasting_shelf(&rt).keepers();
     // bg_hosted
@@ -52,17 +55,16 @@ fn states(rt: HostRuntime) -> Result<(), Fail> {
 }
 
 #[test]
-fn paths_and_messages(rt: HostRuntime) -> Result<(), Fail> {
+fn paths_and_messages(rt: HostRuntime) {
     // bg_requests
     assert!(rt; target_of("/matches/7f3a/state") == Target::Of("7f3a", Part::State));
     assert!(rt; parse_message("act 12 roll") == Message::Act(12, "roll"));
     assert!(rt; is_key_of_order("x") && !is_key_of_order("name_x"));
     // end
-    Ok(())
 }
 
 #[test]
-fn dice(rt: HostRuntime) -> Result<(), Fail> {
+fn dice(rt: HostRuntime) -> Result<(), AllocError> {
     let alloc = rt.alloc();
     // bg_dice
     // The first entry opens a game, so the equal dice of an attempt before would have been passed
@@ -79,7 +81,7 @@ fn dice(rt: HostRuntime) -> Result<(), Fail> {
 }
 
 #[test]
-fn pages(rt: HostRuntime) -> Result<(), Fail> {
+fn pages(rt: HostRuntime) -> Result<(), AllocError> {
     let alloc = rt.alloc();
     // bg_pages
     let mut response = Response::new(alloc);
@@ -124,7 +126,7 @@ fn found<'a>(rt: &(impl AllocGlobal + Abort), shelf: &'a Shelf) -> Found<ShelfKe
 }
 
 #[test]
-fn sites(rt: HostRuntime) -> Result<(), Fail> {
+fn sites(rt: HostRuntime) -> io::Result<()> {
     let alloc = rt.alloc();
     let keys = RandomState::new(&rt)?;
     let store = NoStore {};
@@ -144,7 +146,7 @@ fn sites(rt: HostRuntime) -> Result<(), Fail> {
 }
 
 #[test]
-fn journals(rt: HostRuntime) -> Result<(), Fail> {
+fn journals(rt: HostRuntime) -> Result<(), Error> {
     let alloc = rt.alloc();
     // bg_journal
     let mut journal = Journal::open(&rt, "journal.db")?;
@@ -157,7 +159,7 @@ fn journals(rt: HostRuntime) -> Result<(), Fail> {
 }
 
 #[test]
-fn stores(rt: HostRuntime) -> Result<(), Fail> {
+fn stores(rt: HostRuntime) -> Result<(), AllocError> {
     let alloc = rt.alloc();
     // bg_stores
     // A folder counts as known up to the greatest revision that was noted of it.
@@ -172,7 +174,7 @@ fn stores(rt: HostRuntime) -> Result<(), Fail> {
 }
 
 #[test]
-fn servers(rt: HostRuntime) -> Result<(), Fail> {
+fn servers(rt: HostRuntime) -> io::Result<()> {
     // bg_serve
     let failures = Failures::new();
     let server = Server::begin(&rt, ".", 0, &failures)?;

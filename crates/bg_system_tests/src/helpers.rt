@@ -1,10 +1,11 @@
 //! What these tests are made of.
 
+use crate::checks::check;
 use bg_system::Failures;
 use std::alloc::AllocError;
 use std::os::unix::fs::PermissionsExt;
 use std::process::Abort;
-use std::{fs, str};
+use std::{fs, io, str};
 
 /// A test on the system that it runs on.
 pub(crate) trait Hosted {
@@ -24,32 +25,30 @@ pub(crate) trait Host: Hosted + AllocGlobal + Abort {}
 
 impl<R: Hosted + AllocGlobal + Abort> Host for R {}
 
-/// Ends the test with its row, or with what was said, where something is not so. A message with a
-/// value in it takes a second to prove: so tests share this one.
-pub(crate) fn check(rt: &impl Abort, is_so: bool, row: &str) {
-    assert!(rt; is_so, "{row}");
+/// A value that lasts as long as its process. What has nothing to drop is cheap to prove.
+pub(crate) fn lasting<'a, T: Drop + 'a>(rt: &(impl AllocGlobal + Abort), value: T) -> &'a mut T {
+    match Box::new(rt.alloc(), value) {
+        Ok(kept) => Box::leak(kept),
+        Err(_) => panic!(rt; "memory for a value"),
+    }
 }
 
-/// The number of this process.
-fn number(host: &HostRuntime) -> u32 {
-    std::process::id(host.process())
-}
-
-/// A text that lasts as long as its process. What has nothing to drop is cheap to prove.
-pub(crate) fn lasting(rt: &impl Abort, text: String) -> &'static str {
+/// The same of a text, which wants no memory.
+pub(crate) fn lasting_text(rt: &impl Abort, text: String) -> &'static str {
     str::from_utf8(text.into_bytes().leak()).expect(rt, "a text")
 }
 
-/// The path of a folder of this name, among those of a process.
-fn own_path(rt: &impl Host, process: u32, name: &str) -> &'static str {
-    let temp = std::env::temp_dir(rt.host()).expect(rt, "a folder for what does not last");
-    let path = format!(in rt.alloc(); "{}/bg_system-{process}-{name}", temp.as_str());
-    lasting(rt, path.expect(rt, "memory for a path"))
+/// The path of a folder of this name, among those of this process.
+fn own_path(rt: &impl Host, name: &str) -> io::Result<String> {
+    let temp = std::env::temp_dir(rt.host())?;
+    let process = std::process::id(rt.host().process());
+    let path = format!(in rt.alloc(); "{}/bg_system-{process}-{name}", temp.as_str())?;
+    Ok(path)
 }
 
 /// A new folder of this name, among those of this process.
 pub(crate) fn new_folder(rt: &impl Host, name: &str) -> &'static str {
-    let folder = own_path(rt, number(rt.host()), name);
+    let folder = lasting_text(rt, own_path(rt, name).expect(rt, "the path of a folder"));
     make_folder(rt, folder);
     folder
 }
@@ -77,7 +76,7 @@ pub(crate) fn remove_file(rt: &impl Host, path: &str) {
 /// The path of a file in a folder.
 pub(crate) fn path_in(rt: &(impl AllocGlobal + Abort), folder: &str, name: &str) -> &'static str {
     let path = format!(in rt.alloc(); "{folder}/{name}");
-    lasting(rt, path.expect(rt, "memory for a path"))
+    lasting_text(rt, path.expect(rt, "memory for a path"))
 }
 
 /// Another folder has this name from now on, or the folder has it again.
@@ -90,10 +89,10 @@ pub(crate) fn write_file(rt: &impl Host, path: &str, bytes: &[u8]) {
     fs::write(rt.host(), path, bytes).expect(rt, "a file is written");
 }
 
-/// Whether a file has these bytes.
-pub(crate) fn has_bytes(rt: &impl Host, path: &str, bytes: &[u8]) -> bool {
-    let found = fs::read(rt.host(), path).expect(rt, "a file is read");
-    found.as_slice() == bytes
+/// The bytes of a file, which last as long as the process.
+pub(crate) fn bytes_in(rt: &impl Host, path: &str) -> &'static [u8] {
+    let found = fs::read(rt.host(), path);
+    found.expect(rt, "a file is read").leak()
 }
 
 /// Who may read and write a file.
@@ -102,25 +101,36 @@ pub(crate) fn mode_of(rt: &impl Host, path: &str) -> u32 {
     metadata.permissions().mode() & 0o777
 }
 
-fn try_told(
-    rt: &(impl AllocGlobal + Abort),
-    failures: &Failures,
-    folder: &str,
-) -> Result<String, AllocError> {
-    let mut text = String::new(rt.alloc());
+/// What devices note of their failures, for as long as the process runs.
+pub(crate) fn failures<'a>(rt: &(impl AllocGlobal + Abort)) -> &'a Failures {
+    lasting(rt, Failures::new())
+}
+
+fn write_lines(text: &mut String, failures: &Failures, folder: &str) -> Result<(), AllocError> {
     for failure in failures.drain() {
         writeln!(text, "{}", failure.in_folder(folder))?;
     }
-    Ok(text)
+    Ok(())
 }
 
 /// Takes the failures out: a line for each, of devices over this folder.
-pub(crate) fn told(rt: &(impl AllocGlobal + Abort), failures: &Failures, folder: &str) -> String {
-    try_told(rt, failures, folder).expect(rt, "memory for lines")
+pub(crate) fn told(
+    rt: &(impl AllocGlobal + Abort),
+    failures: &Failures,
+    folder: &str,
+) -> &'static str {
+    let mut text = String::new(rt.alloc());
+    write_lines(&mut text, failures, folder).expect(rt, "memory for lines");
+    lasting_text(rt, text)
 }
 
-/// Takes the failures out, of devices over the folder `DIR`: they are told by these lines.
-pub(crate) fn check_told(rt: &(impl AllocGlobal + Abort), failures: &Failures, lines: &str) {
-    let said = told(rt, failures, "DIR");
-    check(rt, said.as_str() == lines, &said);
+/// Takes the failures out, of devices over this folder: they are told by these lines.
+pub(crate) fn check_told(
+    rt: &(impl AllocGlobal + Abort),
+    failures: &Failures,
+    folder: &str,
+    lines: &str,
+) {
+    let said = told(rt, failures, folder);
+    check(rt, said == lines, said);
 }

@@ -1,8 +1,7 @@
 //! Key files, and the secret that their keys are derived from.
-use crate::helpers::{
-    Host, check, has_bytes, mode_of, new_folder, path_in, remove_folder, write_file,
-};
-use crate::key_texts::{BAD, BAD_TEXTS, GOOD, is_good};
+use crate::checks::{check, check_number, is_printed};
+use crate::helpers::{Host, bytes_in, mode_of, new_folder, path_in, remove_folder, write_file};
+use crate::key_texts::{BAD, GOOD, is_good};
 use crate::seals::keys::{SECRET, key_of, secret};
 use bg_match::{Rules, Terms};
 use bg_seals::{Key, MasterSecret};
@@ -10,8 +9,9 @@ use bg_system::{
     KeyFile, KeyFiles, Keyring, MatchFile, Names, make_key_secret, name_of_key_file,
     read_key_secret,
 };
-use std::fs;
+use std::alloc::Global;
 use std::io::ErrorKind;
+use std::process::Abort;
 
 const TABLE: MatchFile = MatchFile {
     id: 1,
@@ -21,8 +21,6 @@ const TABLE: MatchFile = MatchFile {
     },
     port: 4000,
 };
-
-use std::process::Abort;
 
 /// That of player O, with a key of the bytes 0 to 31.
 const TEXT: &str = "match 1 length 3 rules 1 port 4000
@@ -35,106 +33,101 @@ const DERIVED: &str = "match 1 length 3 rules 1 port 4000
 key 3 f23c903e8be5d05a05177d2a64c1f60431eea1d42c09d41b9152479ea4e9f0a2
 ";
 
-/// Whether a key file is shown as this text.
-fn is_shown_as(rt: &(impl AllocGlobal + Abort), file: &KeyFile, text: &str) -> bool {
-    let shown = format!(in rt.alloc(); "{file}").expect(rt, "memory for a file");
-    shown.as_str() == text
-}
-
 /// Whether it is that of a party of the match, and has these bytes as its key.
 fn is_of(file: &KeyFile, party: u8, key: &[u8]) -> bool {
     file.table == TABLE && file.party == party && file.key.bytes().as_slice() == key
 }
 
-/// No message can have its key by mistake.
-fn check_debug(rt: &(impl AllocGlobal + Abort), file: &KeyFile) {
-    let shown = format!(in rt.alloc(); "{file:?}").expect(rt, "memory for a file");
-    let hides_key = shown.contains("Key(..)") && !shown.contains("0a");
-    assert!(rt; hides_key, "{shown}");
-}
-
-/// A file that is made of a key has its text.
-fn check_made(rt: &(impl AllocGlobal + Abort)) {
+/// Whether a file that is made of a key has its text.
+fn is_made(alloc: Global) -> bool {
     let file = KeyFile {
         table: TABLE,
         names: Names::none(),
         party: 2,
         key: Key::new(&SECRET),
     };
-    assert!(rt; is_shown_as(rt, &file, TEXT), "that of player O");
+    is_printed(alloc, &file, TEXT)
 }
 
-/// So has one whose key is derived.
-fn check_derived(rt: &(impl AllocGlobal + Abort)) {
-    let file = KeyFile::derive(TABLE, &secret(), 3);
-    assert!(rt; is_shown_as(rt, &file, DERIVED), "that of who watches");
+/// Whether one whose key is derived has its text.
+fn is_derived(alloc: Global) -> bool {
+    is_printed(alloc, &KeyFile::derive(TABLE, &secret(), 3), DERIVED)
 }
 
-/// The text is read as what it says.
-fn check_parsed(rt: &(impl AllocGlobal + Abort)) {
-    let file = KeyFile::parse(TEXT).expect(rt, "a good text");
-    assert!(rt; is_of(&file, 2, &SECRET), "what was read");
-    check_debug(rt, &file);
+/// Whether the text is read as what it says, and no message can have its key by mistake.
+fn is_parsed(alloc: Global) -> bool {
+    match KeyFile::parse(TEXT) {
+        Some(file) => is_of(&file, 2, &SECRET) && hides_key(alloc, &file),
+        None => false,
+    }
+}
+
+fn hides_key(alloc: Global, file: &KeyFile) -> bool {
+    match format!(in alloc; "{file:?}") {
+        Ok(shown) => shown.contains("Key(..)") && !shown.contains("0a"),
+        Err(_) => false,
+    }
 }
 
 #[test]
 fn texts_of_key_files(rt: HostRuntime) {
-    check_made(&rt);
-    check_derived(&rt);
-    check_parsed(&rt);
+    check_texts(&rt, rt.alloc());
+}
+
+/// Files have their texts, and a text its file.
+fn check_texts(rt: &impl Abort, alloc: Global) {
+    check(rt, is_made(alloc), "that of player O");
+    check(rt, is_derived(alloc), "that of who watches");
+    check(rt, is_parsed(alloc), "what was read, without its key");
 }
 
 #[test]
 fn texts_of_no_key_file(rt: HostRuntime) {
-    for row in GOOD.split('|') {
-        check(&rt, is_good(&rt, row), row);
-    }
-    for row in BAD.split('|') {
-        check(&rt, !is_good(&rt, row), row);
-    }
-    for text in BAD_TEXTS.split('|') {
-        check(&rt, KeyFile::parse(text).is_none(), text);
+    check_rows(&rt, GOOD, true);
+    check_rows(&rt, BAD, false);
+}
+
+/// All rows between bars are those of key files, or none is.
+fn check_rows(rt: &(impl AllocGlobal + Abort), rows: &str, are_good: bool) {
+    for row in rows.split('|') {
+        check(rt, is_good(rt.alloc(), row) == Some(are_good), row);
     }
 }
 
-/// The key file at a path, if that is one.
-fn read(rt: &impl Host, path: &str) -> Option<KeyFile> {
-    KeyFile::read(rt.host(), path).expect(rt, "a file is read")
-}
-
-/// Whether there is no file at a path.
-fn is_missing(host: &HostRuntime, path: &str) -> bool {
+/// What is at a path: the key file of this party, another one, none, or no file.
+fn found(host: &HostRuntime, path: &str, party: u8) -> &'static str {
     match KeyFile::read(host, path) {
-        Ok(_) => false,
-        Err(error) => error.kind() == ErrorKind::NotFound,
+        Ok(Some(file)) if is_of(&file, party, key_of(1, party).bytes()) => "own",
+        Ok(Some(_)) => "another",
+        Ok(None) => "none",
+        Err(error) if error.kind() == ErrorKind::NotFound => "missing",
+        Err(_) => "broken",
     }
 }
 
-/// The file with the key of a party is written, for its owner alone.
-fn write_key(rt: &impl Host, folder: &str, party: u8) {
+/// Whether the file with the key of a party is written, for its owner alone.
+fn writes_key(host: &HostRuntime, folder: &str, party: u8) -> bool {
     let file = KeyFile::derive(TABLE, &secret(), party);
-    file.write(rt.host(), folder)
-        .expect(rt, "a file is written");
+    file.write(host, folder).is_ok()
 }
 
 /// A key file with these bytes is none.
-fn check_unread(rt: &impl Host, path: &str, bytes: &[u8]) {
+fn check_unread(rt: &impl Host, path: &str, bytes: &[u8], what: &str) {
     write_file(rt, path, bytes);
-    assert!(rt; read(rt, path).is_none(), "{path} {bytes:?}");
+    check(rt, found(rt.host(), path, 0) == "none", what);
 }
 
 /// The file with the key of a party is written and read, by this name.
 fn check_file(rt: &impl Host, folder: &str, party: u8, name: &str) {
-    let path = path_in(rt, folder, name);
-    let is_first = name_of_key_file(party) == name && is_missing(rt.host(), path);
-    assert!(rt; is_first, "{name} before");
-    write_key(rt, folder, party);
-    let file = read(rt, path).expect(rt, "a key file");
-    let is_own = is_of(&file, party, key_of(1, party).bytes()) && mode_of(rt, path) == 0o600;
+    let (host, path) = (rt.host(), path_in(rt, folder, name));
+    let is_missing = found(host, path, party) == "missing";
+    check(rt, is_missing && name_of_key_file(party) == name, name);
+    check(rt, writes_key(host, folder, party), "it is written");
+    let is_own = found(host, path, party) == "own" && mode_of(rt, path) == 0o600;
     check(rt, is_own, name);
-    check_unread(rt, path, TEXT.trim_end().as_bytes());
-    check_unread(rt, path, b"match 1");
-    check_unread(rt, path, &[0xff, 0xfe]);
+    check_unread(rt, path, TEXT.trim_end().as_bytes(), "no end of a line");
+    check_unread(rt, path, b"match 1", "a part of a line");
+    check_unread(rt, path, &[0xff, 0xfe], "no text");
 }
 
 #[test]
@@ -171,12 +164,17 @@ fn keys_of_files(secret: &MasterSecret, other: &MasterSecret) -> Keyring {
 /// secret.
 #[test]
 fn a_referee_with_key_files(rt: HostRuntime) {
+    check_referee(&rt);
+}
+
+/// Those of X and of who watches are of one secret, and that of O is of another.
+fn check_referee(rt: &impl Abort) {
     let (secret, other) = (secret(), MasterSecret::new(&[9; 32]));
     let keys = keys_of_files(&secret, &other);
-    for (party, is_good) in [(1, true), (2, false), (3, true)] {
-        let holds = is_opened(&keys, &secret, party) == is_good
-            && is_opened(&keys, &other, party) != is_good;
-        assert!(rt; holds, "party {party}");
+    for party in 1..4 {
+        let holds = is_opened(&keys, &secret, party) == (party != 2)
+            && is_opened(&keys, &other, party) == (party == 2);
+        check_number(rt, "party", party.into(), holds);
     }
 }
 
@@ -184,25 +182,11 @@ fn make_secret(rt: &impl Host, folder: &str) {
     make_key_secret(rt.host(), folder).expect(rt, "a secret is made");
 }
 
-/// Makes two secrets of keys in a folder, of which the second is another one.
-fn make_two(rt: &impl Host, folder: &str, path: &str) {
-    make_secret(rt, folder);
-    let first = fs::read(rt.host(), path).expect(rt, "a file is read");
-    make_secret(rt, folder);
-    assert!(rt; !has_bytes(rt, path, &first), "another secret");
-}
-
-/// Whether the secret in a folder has this key of a party of match 1.
-fn has_key(rt: &impl Host, folder: &str, party: u8) -> bool {
-    let read = read_key_secret(rt.host(), folder).expect(rt, "a secret is read");
-    *read.key_of(1, party).bytes() == *key_of(1, party).bytes()
-}
-
-/// Why the secret in a folder can't be read.
-fn why_unread(host: &HostRuntime, folder: &str) -> Option<ErrorKind> {
+/// Whether the secret in a folder has this key of a party of match 1, or why it can't be read.
+fn has_key(host: &HostRuntime, folder: &str, party: u8) -> Result<bool, ErrorKind> {
     match read_key_secret(host, folder) {
-        Ok(_) => None,
-        Err(error) => Some(error.kind()),
+        Ok(read) => Ok(*read.key_of(1, party).bytes() == *key_of(1, party).bytes()),
+        Err(error) => Err(error.kind()),
     }
 }
 
@@ -215,13 +199,15 @@ fn secrets_of_keys(rt: HostRuntime) {
 fn check_secrets(rt: &impl Host) {
     let folder = new_folder(rt, "key-secret");
     let path = path_in(rt, folder, "key-secret");
-    make_two(rt, folder, path);
+    make_secret(rt, folder);
+    let first = bytes_in(rt, path);
+    make_secret(rt, folder);
+    check(rt, bytes_in(rt, path) != first, "another secret");
     write_file(rt, path, &SECRET);
-    assert!(rt; has_key(rt, folder, 3), "a known secret");
+    let is_known = has_key(rt.host(), folder, 3) == Ok(true);
+    check(rt, is_known, "a known secret");
     write_file(rt, path, &[1; 31]);
-    assert!(rt;
-        why_unread(rt.host(), folder) == Some(ErrorKind::InvalidData),
-        "31 bytes"
-    );
+    let is_refused = has_key(rt.host(), folder, 3) == Err(ErrorKind::InvalidData);
+    check(rt, is_refused, "31 bytes");
     remove_folder(rt, folder);
 }

@@ -1,5 +1,5 @@
 //! What goes between parties by their keys, and which datagrams count.
-use crate::helpers::check;
+use crate::checks::check;
 use crate::seals::keys::{key_of, secret};
 use crate::words::{bytes_of, small_number, word};
 use bg_seals::{Key, MOST_PACKET_BYTES, SealedDatagram};
@@ -58,26 +58,27 @@ pub(crate) fn heard_by<'a>(
     heard(keys, PORT, own, datagram, from)
 }
 
-/// Whether the datagram of another program is heard as it is, if it is heard.
-fn is_want_of_3(keys: &Keyring, own: u8, from: SocketAddr) -> Option<bool> {
-    let (party, bytes) = heard_by(keys, own, &WANT_OF_3, from)?;
+/// Whether the datagram of another program is heard by the referee's keys as it is, if it is heard.
+fn is_want_of_3(own: u8, last: u8, port: u16) -> Option<bool> {
+    let from = SocketAddr::from((Ipv4Addr::new(127, 0, 0, last), port));
+    let (party, bytes) = heard_by(&referee(), own, &WANT_OF_3, from)?;
     Some(party == 3 && bytes == &WANT_OF_3[..18])
 }
 
 #[test]
 fn a_datagram_of_another_program(rt: HostRuntime) {
-    let keys = referee();
-    assert!(rt; is_want_of_3(&keys, 0, address(PORT + 3)) == Some(true));
-    // From another port, and for another party.
-    for (own, from) in [(0, PORT + 4), (0, PORT), (4, PORT + 3), (3, PORT)] {
-        let found = is_want_of_3(&keys, own, address(from));
-        assert!(rt; found.is_none(), "to {own} from port {from}");
-    }
-    let elsewhere = SocketAddr::from((Ipv4Addr::new(127, 0, 0, 2), PORT + 3));
-    assert!(rt;
-        is_want_of_3(&keys, 0, elsewhere).is_none(),
-        "from elsewhere"
-    );
+    check_want(&rt);
+}
+
+/// It is heard by the referee alone, and from its party's address and port alone.
+fn check_want(rt: &impl Abort) {
+    let is_heard = is_want_of_3(0, 1, PORT + 3) == Some(true);
+    check(rt, is_heard, "the want of party 3");
+    check(rt, is_want_of_3(0, 1, PORT + 4).is_none(), "port of 4");
+    check(rt, is_want_of_3(0, 1, PORT).is_none(), "port of 0");
+    check(rt, is_want_of_3(0, 2, PORT + 3).is_none(), "from elsewhere");
+    check(rt, is_want_of_3(4, 1, PORT + 3).is_none(), "to party 4");
+    check(rt, is_want_of_3(3, 1, PORT).is_none(), "to party 3");
 }
 
 /// Whether the second keys hear a packet of one party as what the first keys sealed to go to

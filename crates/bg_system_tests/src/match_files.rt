@@ -1,7 +1,6 @@
 //! Match files, secrets, and files that are there whole.
-use crate::helpers::{
-    Host, check, has_bytes, mode_of, new_folder, path_in, remove_folder, write_file,
-};
+use crate::checks::{check, is_printed};
+use crate::helpers::{Host, bytes_in, mode_of, new_folder, path_in, remove_folder, write_file};
 use bg_match::{Rules, Terms};
 use bg_system::{HIGHEST_PORT, LOWEST_PORT, MatchFile, make_secret, publish, read_secret};
 use std::io::ErrorKind;
@@ -29,20 +28,15 @@ const LEAST: MatchFile = MatchFile {
 
 /// A file is shown as its text, and its text is read as the file.
 fn check_text(rt: &(impl AllocGlobal + Abort), file: &MatchFile, text: &str) {
-    let shown = format!(in rt.alloc(); "{file}").expect(rt, "memory for a file");
-    let holds = shown.as_str() == text && MatchFile::parse(text) == Some(*file);
-    check(rt, holds, text);
-}
-
-#[test]
-fn texts_of_match_files(rt: HostRuntime) {
-    check_texts(&rt);
+    let is_read = MatchFile::parse(text) == Some(*file);
+    check(rt, is_read && is_printed(rt.alloc(), file, text), text);
 }
 
 /// The longest text and the least one.
-fn check_texts(rt: &(impl AllocGlobal + Abort)) {
-    check_text(rt, &FILE, TEXT);
-    check_text(rt, &LEAST, "match 0 length 1 rules 1 port 1024\n");
+#[test]
+fn texts_of_match_files(rt: HostRuntime) {
+    check_text(&rt, &FILE, TEXT);
+    check_text(&rt, &LEAST, "match 0 length 1 rules 1 port 1024\n");
 }
 
 /// None of the texts between bars is that of a match file.
@@ -80,7 +74,8 @@ const NO_FILES: &str = "\
 /// What says the same as the text of a match file, or more, is none: there is one text for each.
 #[test]
 fn other_texts_of_a_match(rt: HostRuntime) {
-    assert!(rt; MatchFile::parse("match 7 length 3 rules 1 port 4000\n").is_some());
+    let text = "match 7 length 3 rules 1 port 4000\n";
+    check(&rt, MatchFile::parse(text).is_some(), text);
     check_none(&rt, OTHER_TEXTS);
 }
 
@@ -114,16 +109,10 @@ fn read(host: &HostRuntime, path: &str) -> Result<Option<MatchFile>, ErrorKind> 
     }
 }
 
-/// The file is written into a folder.
-fn write(rt: &impl Host, folder: &str) {
-    FILE.write(rt.host(), folder)
-        .expect(rt, "a file is written");
-}
-
 /// A match file with these bytes says nothing.
-fn check_unread(rt: &impl Host, path: &str, bytes: &[u8]) {
+fn check_unread(rt: &impl Host, path: &str, bytes: &[u8], what: &str) {
     write_file(rt, path, bytes);
-    assert!(rt; read(rt.host(), path) == Ok(None), "{bytes:?}");
+    check(rt, read(rt.host(), path) == Ok(None), what);
 }
 
 #[test]
@@ -134,14 +123,16 @@ fn match_files_are_written_and_read(rt: HostRuntime) {
 /// A match file is written and read, and what is none is not read.
 fn check_written(rt: &impl Host) {
     let folder = new_folder(rt, "match-file");
-    let path = path_in(rt, folder, "match");
-    assert!(rt; read(rt.host(), path) == Err(ErrorKind::NotFound));
-    write(rt, folder);
-    assert!(rt; has_bytes(rt, path, TEXT.as_bytes()) && mode_of(rt, path) == 0o600);
-    assert!(rt; read(rt.host(), path) == Ok(Some(FILE)));
-    check_unread(rt, path, b"match 1");
-    check_unread(rt, path, TEXT.trim_end().as_bytes());
-    check_unread(rt, path, &[0xff, 0xfe]);
+    let (host, path) = (rt.host(), path_in(rt, folder, "match"));
+    let is_missing = read(host, path) == Err(ErrorKind::NotFound);
+    check(rt, is_missing, "no file before");
+    FILE.write(host, folder).expect(rt, "a file is written");
+    let is_own = bytes_in(rt, path) == TEXT.as_bytes() && mode_of(rt, path) == 0o600;
+    check(rt, is_own, "its text, for its owner alone");
+    check(rt, read(host, path) == Ok(Some(FILE)), "what was read");
+    check_unread(rt, path, b"match 1", "a part of a line");
+    check_unread(rt, path, TEXT.trim_end().as_bytes(), "no end of a line");
+    check_unread(rt, path, &[0xff, 0xfe], "no text");
     remove_folder(rt, folder);
 }
 
@@ -151,15 +142,14 @@ fn made_secret(rt: &impl Host, folder: &str) -> [u8; 32] {
     read_secret(rt.host(), folder).expect(rt, "a secret is read")
 }
 
-/// A file of so many bytes is no secret.
-fn check_no_secret(rt: &impl Host, folder: &str, path: &str, bytes: &[u8]) {
+/// A file of these bytes is no secret.
+fn check_no_secret(rt: &impl Host, folder: &str, path: &str, bytes: &[u8], what: &str) {
     write_file(rt, path, bytes);
-    let kind = match read_secret(rt.host(), folder) {
-        Ok(_) => None,
-        Err(error) => Some(error.kind()),
+    let is_refused = match read_secret(rt.host(), folder) {
+        Ok(_) => false,
+        Err(error) => error.kind() == ErrorKind::InvalidData,
     };
-    let count = bytes.len();
-    assert!(rt; kind == Some(ErrorKind::InvalidData), "{count} bytes");
+    check(rt, is_refused, what);
 }
 
 #[test]
@@ -172,18 +162,19 @@ fn check_secrets(rt: &impl Host) {
     let folder = new_folder(rt, "secret");
     let path = path_in(rt, folder, "secret");
     let first = made_secret(rt, folder);
-    assert!(rt; mode_of(rt, path) == 0o600);
-    assert!(rt; made_secret(rt, folder) != first);
-    check_no_secret(rt, folder, path, &[1; 33]);
-    check_no_secret(rt, folder, path, &[1; 31]);
-    check_no_secret(rt, folder, path, &[]);
+    check(rt, mode_of(rt, path) == 0o600, "for its owner alone");
+    check(rt, made_secret(rt, folder) != first, "another secret");
+    check_no_secret(rt, folder, path, &[1; 33], "33 bytes");
+    check_no_secret(rt, folder, path, &[1; 31], "31 bytes");
+    check_no_secret(rt, folder, path, &[], "no bytes");
     remove_folder(rt, folder);
 }
 
-/// A file is published with these bytes, and has them.
-fn check_published(rt: &impl Host, path: &str, bytes: &[u8]) {
+/// A file is published with this text, and has it.
+fn check_published(rt: &impl Host, path: &str, text: &str) {
+    let bytes = text.as_bytes();
     publish(rt.host(), path, bytes).expect(rt, "a file is published");
-    assert!(rt; has_bytes(rt, path, bytes), "{bytes:?}");
+    check(rt, bytes_in(rt, path) == bytes, text);
 }
 
 #[test]
@@ -195,8 +186,8 @@ fn published_files(rt: HostRuntime) {
 fn check_publishing(rt: &impl Host) {
     let folder = new_folder(rt, "published");
     let path = path_in(rt, folder, "board");
-    check_published(rt, path, b"first");
-    check_published(rt, path, b"the second");
-    check_published(rt, path, b"");
+    check_published(rt, path, "first");
+    check_published(rt, path, "the second");
+    check_published(rt, path, "");
     remove_folder(rt, folder);
 }

@@ -1,8 +1,11 @@
 //! Match files and key files with the names of players, and their texts.
-use crate::helpers::{Host, check, lasting, path_in};
+use crate::checks::{check, is_printed};
+use crate::helpers::{Host, lasting_text, path_in};
 use crate::seals::keys::secret;
 use bg_match::{Rules, Terms};
 use bg_system::{KeyFile, KeyFiles, MatchFile, Name, NamedMatch, Names};
+use std::alloc::Global;
+use std::process::Abort;
 
 /// The line of a match, in front of others.
 const LINE: &str = "match 7 length 3 rules 1 port 4000\n";
@@ -15,8 +18,6 @@ pub(crate) const TABLE: MatchFile = MatchFile {
     },
     port: 4000,
 };
-
-use std::process::Abort;
 
 /// The name that a text is.
 pub(crate) fn name_of(rt: &impl Abort, text: &str) -> Name {
@@ -75,18 +76,15 @@ fn parted<'a>(rt: &impl Abort, section: &'a str) -> (Names, &'a str) {
 /// The line of a match, and lines behind it.
 pub(crate) fn text_of(rt: &(impl AllocGlobal + Abort), lines: &str, end: &str) -> &'static str {
     let text = format!(in rt.alloc(); "{LINE}{lines}{end}");
-    lasting(rt, text.expect(rt, "memory for a text"))
+    lasting_text(rt, text.expect(rt, "memory for a text"))
 }
 
-/// Whether a text is that of a match file.
-fn is_text_of(rt: &(impl AllocGlobal + Abort), text: &str, file: &NamedMatch) -> bool {
-    let shown = format!(in rt.alloc(); "{file}").expect(rt, "memory for a file");
-    shown.as_str() == text && NamedMatch::parse(text) == Some(*file)
-}
-
-/// Whether a text is read as that of the match, by who passes over names.
-fn is_of_the_match(text: &str) -> bool {
-    MatchFile::parse(text) == Some(TABLE)
+/// Whether a text is that of a match file, and is read as that of the match by who passes over
+/// names.
+fn is_text_of(alloc: Global, text: &str, file: &NamedMatch) -> bool {
+    is_printed(alloc, file, text)
+        && NamedMatch::parse(text) == Some(*file)
+        && MatchFile::parse(text) == Some(TABLE)
 }
 
 pub(crate) fn check_match_file(rt: &(impl AllocGlobal + Abort), section: &str) {
@@ -96,8 +94,7 @@ pub(crate) fn check_match_file(rt: &(impl AllocGlobal + Abort), section: &str) {
         table: TABLE,
         names,
     };
-    let holds = is_text_of(rt, text, &file) && is_of_the_match(text);
-    check(rt, holds, section);
+    check(rt, is_text_of(rt.alloc(), text, &file), section);
 }
 
 /// What stands behind the line of a match that is no name, or not where it belongs; between bars.
@@ -134,22 +131,23 @@ pub(crate) fn check_no_match_file(rt: &impl Abort, text: &str) {
 pub(crate) const KEY: &str =
     "key 2 000102030405060708090a0b0c0d0e0f101112131415161718191a1b1c1d1e1f\n";
 
-/// Whether a key file has this text and these names.
-fn is_named_in(rt: &(impl AllocGlobal + Abort), text: &str, file: &KeyFile, names: &Names) -> bool {
-    let shown = format!(in rt.alloc(); "{file}").expect(rt, "memory for a file");
-    shown.as_str() == text && is_named(file, names, 2)
-}
-
 /// Whether it is that of a party, and has these names.
 pub(crate) fn is_named(file: &KeyFile, names: &Names, party: u8) -> bool {
     file.names == *names && file.named_match().names == *names && file.party == party
 }
 
+/// Whether a text is that of a key file with these names.
+fn is_key_text(alloc: Global, text: &str, names: &Names) -> bool {
+    match KeyFile::parse(text) {
+        Some(file) => is_printed(alloc, &file, text) && is_named(&file, names, 2),
+        None => false,
+    }
+}
+
 pub(crate) fn check_key_file(rt: &(impl AllocGlobal + Abort), section: &str) {
     let (names, lines) = parted(rt, section);
     let text = text_of(rt, lines, KEY);
-    let file = KeyFile::parse(text).expect(rt, section);
-    check(rt, is_named_in(rt, text, &file, &names), section);
+    check(rt, is_key_text(rt.alloc(), text, &names), section);
 }
 
 pub(crate) fn check_no_key_file(rt: &(impl AllocGlobal + Abort), lines: &str, end: &str) {
@@ -157,31 +155,42 @@ pub(crate) fn check_no_key_file(rt: &(impl AllocGlobal + Abort), lines: &str, en
     check(rt, KeyFile::parse(text).is_none(), lines);
 }
 
-/// A file is written into a folder, and read as it was.
+/// Whether a file is written into a folder, and read at the path as it was, with its names or
+/// without.
+fn is_written(host: &HostRuntime, folder: &str, path: &str, file: &NamedMatch) -> bool {
+    file.write(host, folder).is_ok()
+        && NamedMatch::read(host, path).ok() == Some(Some(*file))
+        && MatchFile::read(host, path).ok() == Some(Some(file.table))
+}
+
+/// A match file is written into a folder, and read as it was.
 pub(crate) fn check_written(rt: &impl Host, folder: &str, file: &NamedMatch) {
-    file.write(rt.host(), folder)
-        .expect(rt, "a file is written");
     let path = path_in(rt, folder, "match");
-    let read = NamedMatch::read(rt.host(), path).expect(rt, "a file is read");
-    assert!(rt; read == Some(*file), "the match with its names");
-    let read = MatchFile::read(rt.host(), path).expect(rt, "a file is read");
-    assert!(rt; read == Some(file.table), "the match");
+    let is_written = is_written(rt.host(), folder, path, file);
+    check(rt, is_written, "the match with its names");
 }
 
 /// The key files of a match have no names until they are named.
 pub(crate) fn named_keys(rt: &impl Abort, table: MatchFile, names: &Names) -> KeyFiles {
     let keys = KeyFiles::derive(table, &secret());
-    assert!(rt; keys.x.names == Names::none(), "names of keys");
+    check(rt, keys.x.names == Names::none(), "names of keys");
     keys.named(names)
+}
+
+/// Whether a key file of those who watch is written into a folder, and read at the path as it was.
+fn is_key_written(host: &HostRuntime, folder: &str, path: &str, file: &KeyFile) -> bool {
+    if file.write(host, folder).is_err() {
+        return false;
+    }
+    match KeyFile::read(host, path) {
+        Ok(Some(read)) => read.table == file.table && is_named(&read, &file.names, 3),
+        _ => false,
+    }
 }
 
 /// The key file of who watches is written into a folder, and read as it was.
 pub(crate) fn check_written_key(rt: &impl Host, folder: &str, file: &KeyFile) {
-    file.write(rt.host(), folder)
-        .expect(rt, "a file is written");
     let path = path_in(rt, folder, "match-watch");
-    let read = KeyFile::read(rt.host(), path).expect(rt, "a file is read");
-    let read = read.expect(rt, "a key file");
-    let holds = read.table == file.table && is_named(&read, &file.names, 3);
-    assert!(rt; holds, "the key");
+    let is_written = is_key_written(rt.host(), folder, path, file);
+    check(rt, is_written, "the key");
 }

@@ -1,5 +1,6 @@
 //! The names of players, and the match files and key files that have them.
-use crate::helpers::{Host, check, new_folder, remove_folder};
+use crate::checks::{check, check_number, is_printed};
+use crate::helpers::{Host, new_folder, remove_folder};
 use crate::named_files::{
     KEY, NAMED, NOT_NAMED, TABLE, check_key_file, check_match_file, check_no_key_file,
     check_no_match_file, check_written, check_written_key, is_named, name_of, named_keys, names_of,
@@ -14,11 +15,6 @@ const LONGEST: &str = "0123456789abcdef0123456789abcdef0123456789abcdef012345678
 /// The same with one letter of two bytes at its end.
 const LONGEST_LETTERS: &str =
     "0123456789abcdef0123456789abcdef0123456789abcdef0123456789abcd\u{e4}";
-
-/// Whether two texts are one name.
-fn are_one(rt: &impl Abort, text: &str, other: &str) -> bool {
-    name_of(rt, text) == name_of(rt, other)
-}
 
 /// Names, one in each line. The last lines have the characters beside those that are refused.
 const NAMES: &str = "\
@@ -40,8 +36,8 @@ J\u{f6}rg \u{1f3b2}
 /// A text is a name, and its name is shown as it.
 fn check_name(rt: &(impl AllocGlobal + Abort), text: &str) {
     let name = name_of(rt, text);
-    let shown = format!(in rt.alloc(); "{name}").expect(rt, "memory for a name");
-    check(rt, name.as_str() == text && shown.as_str() == text, text);
+    let is_shown = name.as_str() == text && is_printed(rt.alloc(), &name, text);
+    check(rt, is_shown, text);
 }
 
 #[test]
@@ -56,7 +52,9 @@ fn check_names(rt: &(impl AllocGlobal + Abort)) {
     }
     check_name(rt, LONGEST);
     check_name(rt, LONGEST_LETTERS);
-    assert!(rt; !are_one(rt, "A", "B") && !are_one(rt, "A", "AB"));
+    let name = name_of(rt, "A");
+    let are_others = name != name_of(rt, "B") && name != name_of(rt, "AB");
+    check(rt, are_others, "other names");
 }
 
 /// Texts that are too short or too long for a name, between bars.
@@ -82,7 +80,7 @@ fn fault_of(text: &str) -> Option<NameFault> {
 /// None of these texts is a name, and that for one reason.
 fn check_faults(rt: &impl Abort, texts: &str, fault: NameFault) {
     for text in texts.split('|') {
-        assert!(rt; fault_of(text) == Some(fault), "{text:?}");
+        check(rt, fault_of(text) == Some(fault), text);
     }
 }
 
@@ -163,10 +161,15 @@ fn check_long_names(rt: &impl Host) {
 /// Each of the three files has the names.
 #[test]
 fn all_key_files_are_named(rt: HostRuntime) {
-    let names = names_of(&rt, "Anna", "");
-    let keys = named_keys(&rt, TABLE, &names);
+    check_named(&rt);
+}
+
+/// Those of the seats, and that of who watches.
+fn check_named(rt: &impl Abort) {
+    let names = names_of(rt, "Anna", "");
+    let keys = named_keys(rt, TABLE, &names);
     for (file, party) in [(&keys.x, 1), (&keys.o, 2), (&keys.watchers, 3)] {
         let holds = is_named(file, &names, party) && file.table == TABLE;
-        assert!(rt; holds, "party {party}");
+        check_number(rt, "party", party.into(), holds);
     }
 }

@@ -1,5 +1,5 @@
 //! What a seat is told of the other one, and which datagrams count.
-use crate::helpers::check;
+use crate::checks::check;
 use crate::keyrings::{PORT, address, heard_by, keys_of, party, referee, sealed};
 use crate::words::{bytes_of, port, small_number, word};
 use bg_system::{Keyring, Presence, SIGN_OF_LIFE, told};
@@ -15,19 +15,20 @@ fn told_by(sealing: &Keyring, to: u8, bytes: &[u8], own: u8, from: SocketAddr) -
     told(&party(own), PORT, own, datagram.as_slice(), from)
 }
 
-/// Whether a party hears bytes that the referee seals for it.
-fn is_heard(rt: &impl Abort, own: u8, bytes: &[u8]) -> bool {
-    let datagram = sealed(&referee(), 0, own, bytes).expect(rt, "a seal");
-    heard_by(&party(own), own, datagram.as_slice(), address(PORT)).is_some()
+/// Whether a party hears bytes that the referee seals for it, if it seals them.
+fn is_heard(own: u8, bytes: &[u8]) -> Option<bool> {
+    let datagram = sealed(&referee(), 0, own, bytes)?;
+    let heard = heard_by(&party(own), own, datagram.as_slice(), address(PORT));
+    Some(heard.is_some())
 }
 
 /// Both seats are told this by its bytes, which are no packet and no sign of life.
-fn check_notice(rt: &impl Abort, presence: Presence, bytes: &[u8]) {
-    assert!(rt; presence.notice().as_slice() == bytes, "{presence:?}");
+fn check_notice(rt: &impl Abort, presence: Presence, bytes: &[u8], what: &str) {
+    check(rt, presence.notice().as_slice() == bytes, what);
     for seat in [1, 2] {
         let found = told_by(&referee(), seat, bytes, seat, address(PORT));
-        let holds = found == Some(presence) && !is_heard(rt, seat, bytes);
-        assert!(rt; holds, "{presence:?} to {seat}");
+        let holds = found == Some(presence) && is_heard(seat, bytes) == Some(false);
+        check(rt, holds, what);
     }
 }
 
@@ -35,27 +36,41 @@ fn check_notice(rt: &impl Abort, presence: Presence, bytes: &[u8]) {
 /// program passes over them.
 #[test]
 fn notices(rt: HostRuntime) {
-    check_notice(&rt, Presence::Unheard, &[0, 0]);
-    check_notice(&rt, Presence::Here, HERE);
-    check_notice(&rt, Presence::Away, &[0, 2]);
+    check_notices(&rt);
 }
 
-/// By whose keys a notice is sealed for which seat, to which one it comes, and from which port:
-/// what goes to the other seat, under its key, or not from the referee's port.
+fn check_notices(rt: &impl Abort) {
+    check_notice(rt, Presence::Unheard, &[0, 0], "unheard");
+    check_notice(rt, Presence::Here, HERE, "here");
+    check_notice(rt, Presence::Away, &[0, 2], "away");
+}
+
+/// By whose keys bytes are sealed for which seat, to which one they come, from which port and from
+/// which address of this machine, by its last number, and the bytes: what is no notice; and the
+/// notice that goes to the other seat, under its key, or not from the referee's address and port.
 const STRAYS: &str = "\
-referee 2 1 4000
-2 1 1 4000
-referee 1 1 4001
-referee 1 1 4002
+referee 1 1 4000 1 -
+referee 1 1 4000 1 00
+referee 1 1 4000 1 0003
+referee 1 1 4000 1 0101
+referee 1 1 4000 1 000100
+referee 1 1 4000 1 01
+referee 2 1 4000 1 0001
+2 1 1 4000 1 0001
+referee 1 1 4001 1 0001
+referee 1 1 4002 1 0001
+referee 1 1 4000 2 0001
 ";
 
 /// What a seat is told as a row says.
-fn told_in(rt: &impl Abort, row: &str) -> Option<Presence> {
+fn told_in(rt: &(impl AllocGlobal + Abort), row: &str) -> Option<Presence> {
     let keys = keys_of(rt, word(rt, row, 0));
     let to = small_number(rt, word(rt, row, 1));
     let own = small_number(rt, word(rt, row, 2));
     let port = port(rt, word(rt, row, 3));
-    told_by(&keys, to, HERE, own, address(port))
+    let last = small_number(rt, word(rt, row, 4));
+    let from = SocketAddr::from((Ipv4Addr::new(127, 0, 0, last), port));
+    told_by(&keys, to, bytes_of(rt, word(rt, row, 5)), own, from)
 }
 
 #[test]
@@ -65,20 +80,12 @@ fn what_is_no_notice(rt: HostRuntime) {
 
 /// What is no notice, or does not count, tells nothing.
 fn check_strays(rt: &(impl AllocGlobal + Abort)) {
-    let (keys, here) = (referee(), address(PORT));
-    for word in "- 00 0003 0101 000100 01".split(' ') {
-        let found = told_by(&keys, 1, bytes_of(rt, word), 1, here);
-        check(rt, found.is_none(), word);
-    }
-    assert!(rt; told_by(&keys, 1, SIGN_OF_LIFE, 1, here).is_none());
     for row in STRAYS.lines() {
         check(rt, told_in(rt, row).is_none(), row);
     }
-    let elsewhere = SocketAddr::from((Ipv4Addr::new(127, 0, 0, 2), PORT));
-    assert!(rt;
-        told_by(&keys, 1, HERE, 1, elsewhere).is_none(),
-        "from elsewhere"
-    );
+    let here = address(PORT);
+    let sign = told_by(&referee(), 1, SIGN_OF_LIFE, 1, here);
+    check(rt, sign.is_none(), "the sign of life");
     let unsealed = told(&party(1), PORT, 1, HERE, here);
-    assert!(rt; unsealed.is_none(), "not sealed");
+    check(rt, unsealed.is_none(), "not sealed");
 }

@@ -1,16 +1,18 @@
 //! A socket takes what it sends itself, and nothing else.
-use crate::helpers::Host;
+use crate::checks::check;
+use crate::helpers::{Host, lasting};
 use bg_system::OwnSocket;
 use std::net::{Ipv4Addr, SocketAddr, UdpSocket};
 use std::process::Abort;
 
-fn opened(rt: &impl Host) -> OwnSocket {
-    OwnSocket::open(rt.host()).expect(rt, "a socket")
+/// A socket, which lasts as long as the process.
+fn opened<'a>(rt: &impl Host) -> &'a OwnSocket {
+    lasting(rt, OwnSocket::open(rt.host()).expect(rt, "a socket"))
 }
 
 /// What the socket has next is this, and nothing where this is none.
-fn check_next(rt: &impl Abort, own: &OwnSocket, expected: Option<&[u8]>) {
-    assert!(rt; is_next(own, expected), "{expected:?}");
+fn check_next(rt: &impl Abort, own: &OwnSocket, expected: Option<&[u8]>, what: &str) {
+    check(rt, is_next(own, expected), what);
 }
 
 /// Whether a socket is read, and has this.
@@ -23,13 +25,13 @@ fn is_next(own: &OwnSocket, expected: Option<&[u8]>) -> bool {
 }
 
 /// The socket has this datagram, and then no other.
-fn check_only(rt: &impl Abort, own: &OwnSocket, bytes: &[u8]) {
-    check_next(rt, own, Some(bytes));
-    check_next(rt, own, None);
+fn check_only(rt: &impl Abort, own: &OwnSocket, bytes: &[u8], what: &str) {
+    check_next(rt, own, Some(bytes), what);
+    check_next(rt, own, None, "nothing more");
 }
 
 fn send(rt: &impl Abort, own: &OwnSocket, bytes: &[u8]) {
-    own.send(bytes).expect(rt, "a datagram is sent");
+    check(rt, own.send(bytes).is_ok(), "a datagram is sent");
 }
 
 #[test]
@@ -39,21 +41,14 @@ fn own_datagrams_come_in_order(rt: HostRuntime) {
 
 /// What was sent comes in its order, and no more than 256 bytes of each.
 fn check_order(rt: &impl Host) {
-    check_order_of(rt, &opened(rt));
-}
-
-fn check_order_of(rt: &impl Abort, own: &OwnSocket) {
-    check_next(rt, own, None);
+    let own = opened(rt);
+    check_next(rt, own, None, "nothing yet");
     send(rt, own, b"first");
     send(rt, own, b"");
     send(rt, own, &[3; 300]);
-    check_next(rt, own, Some(b"first"));
-    check_next(rt, own, Some(b""));
-    check_only(rt, own, &[3; 256]);
-}
-
-fn stranger(rt: &impl Host) -> UdpSocket {
-    UdpSocket::bind(rt.host(), (Ipv4Addr::LOCALHOST, 0)).expect(rt, "a socket")
+    check_next(rt, own, Some(b"first"), "the first");
+    check_next(rt, own, Some(b""), "an empty one");
+    check_only(rt, own, &[3; 256], "a long one, cut");
 }
 
 /// A stranger sends bytes so often, as far as there is room.
@@ -63,19 +58,20 @@ fn stray(stranger: &UdpSocket, bytes: &[u8], times: u32, to: SocketAddr) {
     }
 }
 
-/// A socket that hears itself alone from now on, to which a stranger sent before.
-fn opened_late(rt: &impl Host, stranger: &UdpSocket) -> OwnSocket {
-    let own = OwnSocket::bind(rt.host()).expect(rt, "a socket");
-    hear_late(rt, &own, stranger);
-    own
+fn stranger<'a>(rt: &impl Host) -> &'a UdpSocket {
+    let socket = UdpSocket::bind(rt.host(), (Ipv4Addr::LOCALHOST, 0));
+    lasting(rt, socket.expect(rt, "a socket"))
 }
 
-fn hear_late(rt: &impl Abort, own: &OwnSocket, stranger: &UdpSocket) {
+/// A socket that hears itself alone from now on, to which a stranger sent before.
+fn opened_late<'a>(rt: &impl Host, stranger: &UdpSocket) -> &'a OwnSocket {
+    let own: &'a OwnSocket = lasting(rt, OwnSocket::bind(rt.host()).expect(rt, "a socket"));
     for _ in 0..20 {
         let sent = stranger.send_to(b"early", own.address);
-        sent.expect(rt, "a datagram is sent");
+        check(rt, sent.is_ok(), "a stranger sends");
     }
     own.hear_only(own.address).expect(rt, "an address to hear");
+    own
 }
 
 #[test]
@@ -86,25 +82,17 @@ fn datagrams_of_others_are_passed_over(rt: HostRuntime) {
 /// A socket has what it sent itself, whatever others send.
 fn check_passed_over(rt: &impl Host) {
     let stranger = stranger(rt);
-    let own = opened_late(rt, &stranger);
-    check_own(rt, &own, &stranger);
-    check_other(rt, &own, &opened(rt));
-}
-
-/// The socket has its own datagrams alone, whatever a stranger sends.
-fn check_own(rt: &impl Abort, own: &OwnSocket, stranger: &UdpSocket) {
+    let own = opened_late(rt, stranger);
     // What came before the socket was connected waits, and is passed over.
     send(rt, own, b"own");
-    check_only(rt, own, b"own");
+    check_only(rt, own, b"own", "its own");
     // What comes later takes no room: more than the socket has room for leaves room for its own.
     stray(stranger, &[0x42; 128], 5000, own.address);
     send(rt, own, b"own again");
-    check_only(rt, own, b"own again");
-}
-
-/// Another socket of this kind is a stranger too.
-fn check_other(rt: &impl Abort, own: &OwnSocket, other: &OwnSocket) {
+    check_only(rt, own, b"own again", "its own again");
+    // Another socket of this kind is a stranger too.
+    let other = opened(rt);
     send(rt, other, b"other");
-    check_next(rt, own, None);
-    check_only(rt, other, b"other");
+    check_next(rt, own, None, "nothing of another");
+    check_only(rt, other, b"other", "that of another");
 }

@@ -1,4 +1,5 @@
 //! What messages show of names.
+use crate::checks::{check, is_printed};
 use bg_system::{Printable, PrintableLines};
 use std::process::Abort;
 
@@ -12,10 +13,10 @@ const SHOWN: &str = "party-0.1 -> party-0.1\
     |a\\b\"c' -> a\\\\b\\\"c'\
     | -> ";
 
+/// A row's name is shown as it says.
 fn check_row(rt: &(impl AllocGlobal + Abort), row: &str) {
     let (name, shown) = row.split_once(" -> ").expect(rt, "an arrow");
-    let text = format!(in rt.alloc(); "{}", Printable(name)).expect(rt, "memory for a name");
-    assert!(rt; text.as_str() == shown, "{text}");
+    check(rt, is_printed(rt.alloc(), &Printable(name), shown), row);
 }
 
 #[test]
@@ -27,7 +28,7 @@ fn names_cant_break_a_terminal(rt: HostRuntime) {
 
 #[test]
 fn lines_stay_lines(rt: HostRuntime) {
-    let text = format!(in rt.alloc(); "{}", PrintableLines("one '\u{1b}[2J'\n\n  two\n"));
-    let text = text.expect(&rt, "memory for lines");
-    assert!(rt; text.as_str() == "one '\\u{1b}[2J'\n\n  two\n");
+    let lines = PrintableLines("one '\u{1b}[2J'\n\n  two\n");
+    let is_so = is_printed(rt.alloc(), &lines, "one '\\u{1b}[2J'\n\n  two\n");
+    check(&rt, is_so, "lines are shown as lines");
 }

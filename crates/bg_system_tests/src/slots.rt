@@ -1,5 +1,6 @@
 //! What calls of the files of a party come to.
-use crate::helpers::check;
+use crate::checks::check;
+use crate::helpers::lasting;
 use bg_system::{Failures, PartyFiles};
 use bg_wire::Slot;
 use std::io::ErrorKind;
@@ -7,15 +8,16 @@ use std::process::Abort;
 
 pub(crate) type Files<'a> = PartyFiles<'a, HostRuntime>;
 
-/// The files of a party in a folder of a system.
+/// The files of a party in a folder of a system. They last as long as the process.
 pub(crate) fn files_of<'a>(
-    rt: &impl Abort,
+    rt: &(impl AllocGlobal + Abort),
     host: &'a HostRuntime,
     folder: &str,
     party: u8,
     failures: &'a Failures,
-) -> Files<'a> {
-    PartyFiles::new(host, folder, party, failures).expect(rt, "the files of a party")
+) -> &'a mut Files<'a> {
+    let files = PartyFiles::new(host, folder, party, failures);
+    lasting(rt, files.expect(rt, "the files of a party"))
 }
 
 /// What a call came to: nothing where it succeeded, else the kind of the error.
@@ -36,8 +38,8 @@ fn write(files: &mut Files<'_>, slot: Slot, bytes: &[u8]) -> Came {
 }
 
 /// A slot is written.
-pub(crate) fn check_writes(rt: &impl Abort, files: &mut Files<'_>, slot: Slot, bytes: &[u8]) {
-    assert!(rt; write(files, slot, bytes).is_none(), "{bytes:?} is written");
+pub(crate) fn check_writes(rt: &impl Abort, files: &mut Files<'_>, slot: Slot, text: &str) {
+    check(rt, write(files, slot, text.as_bytes()).is_none(), text);
 }
 
 /// A slot can be neither read nor written, for this reason.
@@ -49,7 +51,7 @@ pub(crate) fn check_fails(
     when: &str,
 ) {
     let fails = read(files, slot) == Some(kind) && write(files, slot, b"new") == Some(kind);
-    assert!(rt; fails, "{when}: {slot:?}");
+    check(rt, fails, when);
 }
 
 /// Both slots can be neither read nor written, as their files or their folder are missing.
@@ -60,7 +62,7 @@ pub(crate) fn check_away(rt: &impl Abort, files: &mut Files<'_>, when: &str) {
 }
 
 /// Whether a slot has these bytes.
-pub(crate) fn has(files: &mut Files<'_>, slot: Slot, bytes: &[u8]) -> bool {
+fn has(files: &mut Files<'_>, slot: Slot, bytes: &[u8]) -> bool {
     match files.read(slot) {
         Ok(found) => found.as_slice() == bytes,
         Err(_) => false,

@@ -1,4 +1,5 @@
 //! What the words of rows say. A word that says nothing of the kind ends the test.
+use crate::checks::check;
 use std::process::Abort;
 
 /// A word of a row, by its place from 0 on.
@@ -22,7 +23,7 @@ pub(crate) fn port(rt: &impl Abort, word: &str) -> u16 {
 }
 
 fn push(rt: &impl Abort, bytes: &mut Vec<u8>, byte: u8) {
-    assert!(rt; bytes.push(byte).is_ok(), "memory for a byte");
+    check(rt, bytes.push(byte).is_ok(), "memory for a byte");
 }
 
 /// Adds the bytes of so many digits, two for each.

@@ -56,9 +56,10 @@ pub(crate) fn text_of(bytes: &[u8]) -> &str {
     std::str::from_utf8(bytes).unwrap_or("no text")
 }
 
-/// Ends the test where the growth that comes next is refused: so `tools/checks/refuse_growths`
-/// learns how many came before.
-pub(crate) fn check_no_growth_is_left(rt: &impl Abort, alloc: Global) {
+/// It holds of this row. Ends the test too where the growth that comes next is refused: so
+/// `tools/checks/refuse_growths` learns how many came before.
+pub(crate) fn check_last(rt: &impl Abort, alloc: Global, row: &str, holds: bool) {
+    check_row(rt, row, holds);
     let growth = Vec::<u8>::with_capacity(alloc, 1);
     check_row(rt, "no growth is left", growth.is_ok());
 }

@@ -25,25 +25,19 @@ pub(crate) fn is_pushed(record: &mut Record, entry: &Entry) -> bool {
     record.push(entry.copy()).is_ok() || record.push(entry.copy()).is_ok()
 }
 
-/// Whether a line is that of an entry, which is appended.
-fn is_line_pushed(record: &mut Record, line: &str) -> bool {
-    match parse_entry(line.as_bytes()) {
-        Ok((_, entry)) => is_pushed(record, &entry),
-        Err(_) => false,
-    }
-}
-
 /// Appends the entries of some lines.
 pub(crate) fn push_lines(rt: &impl Abort, record: &mut Record, lines: &str) {
     for line in lines.lines() {
-        check_row(rt, line, is_line_pushed(record, line));
+        let (_, entry) = parse_entry(line.as_bytes()).expect(rt, line);
+        check_row(rt, line, is_pushed(record, &entry));
     }
 }
 
 /// The transcript of a record, also where memory is refused once.
 pub(crate) fn written(rt: &impl Abort, alloc: Global, record: &Record) -> Vec<u8> {
     match transcript_text(alloc, record) {
-        Ok(text) => text,
-        Err(_) => transcript_text(alloc, record).expect(rt, "memory"),
+        Err(_) => transcript_text(alloc, record),
+        text => text,
     }
+    .expect(rt, "memory")
 }

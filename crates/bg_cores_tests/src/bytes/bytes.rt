@@ -1,4 +1,5 @@
 //! Bytes of tests, and what is made of them.
+use crate::checks::check_row;
 use arrayvec::ArrayVec;
 use bg_board::Step;
 use bg_match::Entry;
@@ -24,7 +25,7 @@ fn push_step(turn: &mut Turn, step: (u8, u8)) -> bool {
 pub(crate) fn turn(rt: &impl Abort, steps: &[(u8, u8)]) -> Turn {
     let mut turn = Turn::new();
     for step in steps {
-        assert!(rt; push_step(&mut turn, *step));
+        check_row(rt, "a step", push_step(&mut turn, *step));
     }
     turn
 }
@@ -33,14 +34,18 @@ pub(crate) fn turn(rt: &impl Abort, steps: &[(u8, u8)]) -> Turn {
 pub(crate) fn list(rt: &impl Abort, entries: &[Entry]) -> EntryList {
     let mut list = ArrayVec::new();
     for entry in entries {
-        assert!(rt; list.try_push(entry.copy()).is_ok());
+        check_row(rt, "room for an entry", list.try_push(entry.copy()).is_ok());
     }
     EntryList { entries: list }
 }
 
 /// Appends more bytes.
 pub(crate) fn extend(rt: &impl Abort, bytes: &mut Bytes, more: &[u8]) {
-    assert!(rt; bytes.try_extend_from_slice(more).is_ok());
+    check_row(
+        rt,
+        "room for bytes",
+        bytes.try_extend_from_slice(more).is_ok(),
+    );
 }
 
 /// The bytes, and more behind them.
@@ -53,18 +58,15 @@ pub(crate) fn joined(rt: &impl Abort, bytes: &[u8], more: &[u8]) -> Bytes {
 
 /// The bytes with one of them changed.
 pub(crate) fn with_byte(rt: &impl Abort, bytes: &[u8], offset: usize, byte: u8) -> Bytes {
-    let mut changed = joined(rt, bytes, &[]);
-    if let Some(place) = changed.as_mut_slice().get_mut(offset) {
-        *place = byte;
-    }
-    changed
+    with_bytes(rt, bytes, offset, &[byte])
 }
 
 /// The bytes, of which those from this offset on are changed.
 pub(crate) fn with_bytes(rt: &impl Abort, bytes: &[u8], offset: usize, new: &[u8]) -> Bytes {
-    let mut changed = joined(rt, bytes, &[]);
-    for (place, &byte) in changed.as_mut_slice().iter_mut().skip(offset).zip(new) {
-        *place = byte;
-    }
+    let end = offset.saturating_add(new.len());
+    let front = bytes.get(..offset).expect(rt, "bytes before");
+    let rest = bytes.get(end..).expect(rt, "bytes to change");
+    let mut changed = joined(rt, front, new);
+    extend(rt, &mut changed, rest);
     changed
 }

@@ -1,5 +1,6 @@
 //! Worked packets, byte by byte: the least and the greatest, and each kind of action and of entry.
 use crate::bytes::bytes::{Bytes, extend, joined, list, turn, with_byte};
+use crate::checks::{check_bytes, check_number};
 use arrayvec::ArrayVec;
 use bg_board::Die;
 use bg_match::{Action, Entry, Level, Rules};
@@ -40,7 +41,7 @@ fn is_text_of(bytes: &[u8], packet: &Packet) -> bool {
 
 /// The packet is read of the bytes, and they are written of it.
 fn check_packet(rt: &impl Abort, bytes: &[u8], packet: &Packet) {
-    assert!(rt; is_text_of(bytes, packet), "{bytes:?}");
+    check_bytes(rt, bytes, is_text_of(bytes, packet));
 }
 
 /// A datagram of the bytes, to party 3, is copied whole.
@@ -51,7 +52,7 @@ fn check_copy(rt: &impl Abort, bytes: &[u8]) {
         to: 3,
         bytes: PacketBytes { bytes: sent },
     };
-    assert!(rt; datagram.copy() == datagram);
+    check_bytes(rt, bytes, datagram.copy() == datagram);
 }
 
 /// Whether what is read of the bytes, if they are a packet, is spelled as they are.
@@ -64,7 +65,7 @@ fn is_spelled_so(bytes: &[u8]) -> bool {
 
 /// What is read of the bytes is spelled as they are.
 pub(crate) fn check_spelling(rt: &impl Abort, bytes: &[u8]) {
-    assert!(rt; is_spelled_so(bytes), "{bytes:?}");
+    check_bytes(rt, bytes, is_spelled_so(bytes));
 }
 
 #[test]
@@ -209,16 +210,16 @@ fn is_by_second_rules(bytes: &[u8]) -> bool {
 
 /// The bytes are a packet by the second rules.
 fn check_second_rules(rt: &impl Abort, bytes: &[u8]) {
-    assert!(rt; is_by_second_rules(bytes), "{bytes:?}");
+    check_bytes(rt, bytes, is_by_second_rules(bytes));
     check_spelling(rt, bytes);
 }
 
 /// Each kind of packet by the second rules.
 #[test]
 fn packets_by_second_rules(rt: HostRuntime) {
-    for bytes in [WANT.as_slice(), &CLAIM, &ENTRIES] {
-        check_second_rules(&rt, with_byte(&rt, bytes, 12, 2).as_slice());
-    }
+    check_second_rules(&rt, with_byte(&rt, &WANT, 12, 2).as_slice());
+    check_second_rules(&rt, with_byte(&rt, &CLAIM, 12, 2).as_slice());
+    check_second_rules(&rt, with_byte(&rt, &ENTRIES, 12, 2).as_slice());
     let want = Packet::Want {
         id: 1,
         rules: Rules::Two,
@@ -232,11 +233,11 @@ fn packets_by_second_rules(rt: HostRuntime) {
 fn longest_packet(rt: HostRuntime) {
     let entries = [[0x06, 4, 25, 0, 25, 24, 2, 1, 1, 0]; 8];
     let bytes = bytes_of(&rt, 0x03, &[0, 0x0f, 0x42, 0x39, 8], entries.as_flattened());
-    check_longest(&rt, bytes.as_slice());
+    check_number(&rt, "length", LONGEST_PACKET, is_longest(bytes.as_slice()));
+    check_spelling(&rt, bytes.as_slice());
 }
 
-fn check_longest(rt: &impl Abort, bytes: &[u8]) {
-    assert!(rt; bytes.len() == 98 && LONGEST_PACKET == 98);
-    assert!(rt; decode(bytes).is_ok());
-    check_spelling(rt, bytes);
+/// Whether the bytes are as many as a packet has at most, and are one.
+fn is_longest(bytes: &[u8]) -> bool {
+    bytes.len() == 98 && LONGEST_PACKET == 98 && decode(bytes).is_ok()
 }

@@ -1,6 +1,7 @@
 //! Packets of which bytes are missing, added or changed.
 use crate::bytes::bytes::{joined, with_byte, with_bytes};
 use crate::bytes::packets::{CLAIM, ENTRIES, WANT, check_spelling, packet_bytes};
+use crate::checks::{check_bytes, check_number};
 use bg_wire::{WireFault, decode};
 use std::process::Abort;
 
@@ -13,7 +14,7 @@ fn is_refused(bytes: &[u8], fault: WireFault) -> bool {
 }
 
 fn check_refused(rt: &impl Abort, bytes: &[u8], fault: WireFault) {
-    assert!(rt; is_refused(bytes, fault), "{bytes:?}");
+    check_bytes(rt, bytes, is_refused(bytes, fault));
 }
 
 /// The bytes are refused with others from an offset on.
@@ -33,7 +34,7 @@ fn is_refused_with(rt: &impl Abort, bytes: &[u8], change: Change) -> bool {
 /// The bytes are refused with each change, and with one more byte.
 fn check_changes(rt: &impl Abort, bytes: &[u8], changes: &[Change]) {
     for (i, change) in changes.iter().enumerate() {
-        assert!(rt; is_refused_with(rt, bytes, *change), "change {i}");
+        check_number(rt, "change", i, is_refused_with(rt, bytes, *change));
     }
     check_refused(rt, joined(rt, bytes, &[0]).as_slice(), WireFault::Extra);
 }
@@ -135,10 +136,14 @@ fn check_bytes_at(rt: &impl Abort, bytes: &[u8], offset: usize) {
 /// are.
 #[test]
 fn cut_and_changed_packets(rt: HostRuntime) {
-    for bytes in [WANT.as_slice(), &CLAIM, &ENTRIES] {
-        for offset in 0..bytes.len() {
-            check_refused(&rt, &bytes[..offset], WireFault::Short);
-            check_bytes_at(&rt, bytes, offset);
-        }
+    check_each_offset(&rt, &WANT);
+    check_each_offset(&rt, &CLAIM);
+    check_each_offset(&rt, &ENTRIES);
+}
+
+fn check_each_offset(rt: &impl Abort, bytes: &[u8]) {
+    for offset in 0..bytes.len() {
+        check_refused(rt, &bytes[..offset], WireFault::Short);
+        check_bytes_at(rt, bytes, offset);
     }
 }

@@ -7,6 +7,7 @@ use crate::bytes::saves::{
     OLD_REFEREE_SAVE, OLD_SEAT_SAVE, REFEREE_SAVE, SEAT_SAVE, check_entries, check_saved,
     check_text, kept, loaded, text_of,
 };
+use crate::checks::{check_bytes, check_number};
 use bg_wire::{LoadFault, Saved, load};
 use std::alloc::Global;
 use std::process::Abort;
@@ -22,7 +23,7 @@ fn is_refused(alloc: Global, bytes: &[u8], fault: LoadFault) -> bool {
 
 /// The bytes are not loaded, and this is why.
 pub(crate) fn check_load_fault(rt: &(impl AllocGlobal + Abort), bytes: &[u8], fault: LoadFault) {
-    assert!(rt; is_refused(rt.alloc(), bytes, fault), "{bytes:?}");
+    check_bytes(rt, bytes, is_refused(rt.alloc(), bytes, fault));
 }
 
 /// The byte at an offset is another, and so the bytes are refused for this.
@@ -38,7 +39,7 @@ fn is_refused_with(rt: &(impl AllocGlobal + Abort), bytes: &[u8], change: Change
 /// The bytes are refused with each change.
 fn check_changes(rt: &(impl AllocGlobal + Abort), bytes: &[u8], changes: &[Change]) {
     for (i, change) in changes.iter().enumerate() {
-        assert!(rt; is_refused_with(rt, bytes, *change), "change {i}");
+        check_number(rt, "change", i, is_refused_with(rt, bytes, *change));
     }
 }
 
@@ -164,7 +165,7 @@ fn check_again(rt: &(impl AllocGlobal + Abort), saved: &Saved)
 {
     let text = text_of(rt, saved);
     let again = kept(rt, text);
-    assert!(rt; have_the_same_front(again, saved), "{text:?}");
+    check_bytes(rt, text, have_the_same_front(again, saved));
     check_entries(rt, &again.log, &saved.log);
 }
 
@@ -180,33 +181,29 @@ fn check_spelled(rt: &(impl AllocGlobal + Abort), saved: &Saved, bytes: &[u8])
     }
 }
 
-/// The same, where the bytes are loaded.
-fn check_changed(rt: &(impl AllocGlobal + Abort), bytes: &[u8]) {
-    if let Ok(saved) = loaded(rt.alloc(), bytes) {
-        check_spelled(rt, &saved, bytes);
-    }
-}
-
-/// The same, whatever byte is at an offset.
+/// The same, where the bytes are loaded, whatever byte is at an offset.
 fn check_bytes_at(rt: &(impl AllocGlobal + Abort), bytes: &[u8], offset: usize) {
     for byte in 0..=255 {
-        check_changed(rt, with_byte(rt, bytes, offset, byte).as_slice());
+        let changed = with_byte(rt, bytes, offset, byte);
+        if let Ok(saved) = loaded(rt.alloc(), changed.as_slice()) {
+            check_spelled(rt, &saved, changed.as_slice());
+        }
     }
 }
 
 /// A part of a saved text is short.
 #[test]
 fn cut_and_changed_saves(rt: HostRuntime) {
-    for bytes in [
-        REFEREE_SAVE.as_slice(),
-        &SEAT_SAVE,
-        &OLD_REFEREE_SAVE,
-        &OLD_SEAT_SAVE,
-    ] {
-        for offset in 0..bytes.len() {
-            check_load_fault(&rt, &bytes[..offset], LoadFault::Short);
-            check_bytes_at(&rt, bytes, offset);
-        }
+    check_each_offset(&rt, &REFEREE_SAVE);
+    check_each_offset(&rt, &SEAT_SAVE);
+    check_each_offset(&rt, &OLD_REFEREE_SAVE);
+    check_each_offset(&rt, &OLD_SEAT_SAVE);
+}
+
+fn check_each_offset(rt: &(impl AllocGlobal + Abort), bytes: &[u8]) {
+    for offset in 0..bytes.len() {
+        check_load_fault(rt, &bytes[..offset], LoadFault::Short);
+        check_bytes_at(rt, bytes, offset);
     }
 }
 

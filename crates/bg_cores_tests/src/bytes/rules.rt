@@ -3,6 +3,7 @@
 use crate::bytes::bytes::{joined, turn, with_byte, with_bytes};
 use crate::bytes::refused_saves::check_load_fault;
 use crate::bytes::saves::{OLD_REFEREE_SAVE, REFEREE_SAVE, check_saved, kept};
+use crate::checks::check_bytes;
 use bg_match::{Entry, Rules};
 use bg_wire::{LoadFault, RestoreRefusal, Saved, restore};
 use std::alloc::Global;
@@ -16,16 +17,17 @@ const PASSED_SAVE: [u8; 46] = [
     0x14, 0x0d, 0x0a, 0x02, 0x06, 0x06, 0x0a,
 ];
 
-/// What the referee of match 1, of length 1, restores of slot 0 by these rules: the rules of what
-/// is restored, if there is something.
-fn restored(alloc: Global, slot0: &[u8], rules: Rules) -> Result<Option<Rules>, RestoreRefusal> {
-    let found = restore(alloc, slot0, &[], 0, 1, 1, rules)?;
-    Ok(found.map(|saved| saved.log.rules()))
+/// Whether the referee of match 1, of length 1, restores a match by these rules of slot 0.
+fn restores(alloc: Global, slot0: &[u8], rules: Rules) -> bool {
+    match restore(alloc, slot0, &[], 0, 1, 1, rules) {
+        Ok(Some(saved)) => saved.log.rules() == rules,
+        _ => false,
+    }
 }
 
-/// By which rules a saved text is.
-fn rules_of(saved: &Saved) -> Rules {
-    saved.log.rules()
+/// Why the referee restores nothing of slot 0 by these rules.
+fn refusal(alloc: Global, slot0: &[u8], rules: Rules) -> Option<RestoreRefusal> {
+    restore(alloc, slot0, &[], 0, 1, 1, rules).err()
 }
 
 /// A text is of the rules that it tells, and of no others.
@@ -47,19 +49,16 @@ fn rules_are_saved(rt: HostRuntime) {
 /// A text of the second layout is of its own rules, and of no others.
 fn check_rules(rt: &(impl AllocGlobal + Abort), bytes: &[u8], own: Rules, other: Rules) {
     let saved = kept(rt, bytes);
-    assert!(rt; rules_of(saved) == own, "{bytes:?}");
+    check_bytes(rt, bytes, saved.log.rules() == own);
     check_saved(rt, saved, bytes);
     check_restored(rt, bytes, own, other);
 }
 
 /// A text is restored by its own rules, and by no others.
 fn check_restored(rt: &(impl AllocGlobal + Abort), text: &[u8], own: Rules, other: Rules) {
-    let wrong = Err(RestoreRefusal::WrongMatch);
-    assert!(rt;
-        restored(rt.alloc(), text, own) == Ok(Some(own)),
-        "{text:?}"
-    );
-    assert!(rt; restored(rt.alloc(), text, other) == wrong, "{text:?}");
+    check_bytes(rt, text, restores(rt.alloc(), text, own));
+    let refusal = refusal(rt.alloc(), text, other);
+    check_bytes(rt, text, refusal == Some(RestoreRefusal::WrongMatch));
 }
 
 /// Whether this is the save with the pass.
@@ -74,7 +73,7 @@ fn is_passed_save(rt: &impl Abort, saved: &Saved) -> bool {
 fn worked_pass(rt: HostRuntime) {
     let saved = kept(&rt, &PASSED_SAVE);
     check_saved(&rt, saved, &PASSED_SAVE);
-    assert!(rt; is_passed_save(&rt, saved));
+    check_bytes(&rt, &PASSED_SAVE, is_passed_save(&rt, saved));
     for cut in 0..PASSED_SAVE.len() {
         check_load_fault(&rt, &PASSED_SAVE[..cut], LoadFault::Short);
     }

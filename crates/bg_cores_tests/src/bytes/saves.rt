@@ -4,6 +4,7 @@ ghost use Rattle.bg_wire.specs.Entries.Codes.{least_save, seat_of_o};
 ghost use Rattle.bg_wire.specs.Saved.SavedText.{IsSavable, parts_of};
 
 use crate::bytes::bytes::{turn, with_bytes};
+use crate::checks::{check_bytes, check_number, check_row};
 use crate::lasting::lasting;
 use bg_board::Die;
 use bg_match::{Action, Entry, Level, MOST_ENTRIES, Number, Record, Rules};
@@ -13,7 +14,6 @@ use bg_wire::{
 };
 use std::alloc::{AllocError, Global};
 use std::process::Abort;
-use std::test::Fail;
 
 /// The referee's save 2 of match 1, of length 1, with the opening 3 1 and 8-5 6-5.
 pub(crate) const REFEREE_SAVE: [u8; 33] = [
@@ -59,7 +59,7 @@ pub(crate) fn kept(rt: &(impl AllocGlobal + Abort), bytes: &[u8]) -> &'static Sa
 pub(crate) fn check_saved(rt: &(impl AllocGlobal + Abort), saved: &Saved, bytes: &[u8])
     requires { IsSavable (parts_of saved.now) }
 {
-    assert!(rt; check_text(rt, saved, bytes).is_ok(), "out of memory");
+    check_row(rt, "memory", check_text(rt, saved, bytes).is_ok());
 }
 
 /// The text of what is saved is this one.
@@ -71,13 +71,8 @@ pub(crate) fn check_text(
     requires { IsSavable (parts_of saved.now) }
 {
     let text = save_text(rt.alloc(), saved)?;
-    check_bytes(rt, &text, bytes);
+    check_bytes(rt, &text, text.as_slice() == bytes);
     Ok(())
-}
-
-/// The bytes of a text are these.
-fn check_bytes(rt: &impl Abort, text: &[u8], bytes: &[u8]) {
-    assert!(rt; text == bytes, "{text:?}");
 }
 
 /// Whether it is a record of match 1, of length 1, by the first rules, with so many entries. The
@@ -100,11 +95,14 @@ fn is_save_of_the_referee(rt: &impl Abort, saved: &Saved) -> bool {
 /// A text of either layout is loaded, and what was loaded is saved in the second one.
 #[test]
 fn worked_save_of_the_referee(rt: HostRuntime) {
-    for bytes in [REFEREE_SAVE.as_slice(), &OLD_REFEREE_SAVE] {
-        let saved = kept(&rt, bytes);
-        check_saved(&rt, saved, &REFEREE_SAVE);
-        assert!(rt; is_save_of_the_referee(&rt, saved), "{bytes:?}");
-    }
+    check_save_of_the_referee(&rt, &REFEREE_SAVE);
+    check_save_of_the_referee(&rt, &OLD_REFEREE_SAVE);
+}
+
+fn check_save_of_the_referee(rt: &(impl AllocGlobal + Abort), bytes: &[u8]) {
+    let saved = kept(rt, bytes);
+    check_saved(rt, saved, &REFEREE_SAVE);
+    check_bytes(rt, bytes, is_save_of_the_referee(rt, saved));
 }
 
 /// Whether this is what the seat of X saved.
@@ -115,69 +113,83 @@ fn is_save_of_the_seat(rt: &impl Abort, saved: &Saved) -> bool {
 
 #[test]
 fn worked_save_of_a_seat(rt: HostRuntime) {
-    for bytes in [SEAT_SAVE.as_slice(), &OLD_SEAT_SAVE] {
-        let saved = kept(&rt, bytes);
-        check_saved(&rt, saved, &SEAT_SAVE);
-        assert!(rt; is_save_of_the_seat(&rt, saved), "{bytes:?}");
-    }
+    check_save_of_the_seat(&rt, &SEAT_SAVE);
+    check_save_of_the_seat(&rt, &OLD_SEAT_SAVE);
 }
 
-/// The number of the claim in a saved text.
-fn claimed(alloc: Global, bytes: &[u8]) -> Result<Option<Number>, LoadFault> {
-    let saved = load(alloc, bytes)?;
-    Ok(saved.claim.map(|(number, _action)| number))
+fn check_save_of_the_seat(rt: &(impl AllocGlobal + Abort), bytes: &[u8]) {
+    let saved = kept(rt, bytes);
+    check_saved(rt, saved, &SEAT_SAVE);
+    check_bytes(rt, bytes, is_save_of_the_seat(rt, saved));
+}
+
+/// Whether the claim in a saved text is that of the entry of this number.
+fn is_claimed(alloc: Global, bytes: &[u8], wanted: Number) -> bool {
+    match load(alloc, bytes) {
+        Ok(saved) => matches!(&saved.claim, Some((number, _)) if *number == wanted),
+        Err(_) => false,
+    }
 }
 
 /// A claim has the greatest number of its layout.
 #[test]
 fn last_claims(rt: HostRuntime) {
     let old = with_bytes(&rt, &OLD_SEAT_SAVE, 19, &[0xff, 0xff]);
-    assert!(rt; claimed(rt.alloc(), old.as_slice()) == Ok(Some(65535)));
+    check_number(&rt, "claim", 65535, is_claimed(rt.alloc(), &old, 65535));
     let new = with_bytes(&rt, &SEAT_SAVE, 20, &[0, 0x0f, 0x42, 0x40]);
-    assert!(rt; claimed(rt.alloc(), new.as_slice()) == Ok(Some(1000000)));
+    check_number(&rt, "claim", 1000000, is_claimed(rt.alloc(), &new, 1000000));
+}
+
+/// Whether an opening is appended, and so many pairs of entries behind it.
+fn are_pushed(log: &mut Record, pairs: Number) -> bool {
+    for _ in 0..pairs {
+        if log.push(Entry::Resigned(Level::Normal)).is_err() || log.push(Entry::Rejected).is_err() {
+            return false;
+        }
+    }
+    true
 }
 
 /// A record with so many pairs of entries behind an opening.
-fn long_record(alloc: Global, pairs: Number) -> Result<Record, Fail> {
-    let mut log = Record::new(alloc, 1, 1, Rules::One)?;
-    log.push(Entry::Opening(Die::Three, Die::One))?;
-    for _ in 0..pairs {
-        log.push(Entry::Resigned(Level::Normal))?;
-        log.push(Entry::Rejected)?;
-    }
-    Ok(log)
+fn long_record(rt: &impl Abort, alloc: Global, pairs: Number) -> Record {
+    let mut log = Record::new(alloc, 1, 1, Rules::One).expect(rt, "a record");
+    let opening = Entry::Opening(Die::Three, Die::One);
+    check_row(rt, "an opening", log.push(opening).is_ok());
+    check_row(rt, "a long record", are_pushed(&mut log, pairs));
+    log
 }
 
 /// The records have the same entries.
 pub(crate) fn check_entries(rt: &impl Abort, log: &Record, expected: &Record) {
-    assert!(rt; log.len() == expected.len());
+    check_row(rt, "number of entries", log.len() == expected.len());
     for number in 1..=expected.len() {
-        assert!(rt; log.entry(number) == expected.entry(number), "at {number}");
+        let is_same = log.entry(number) == expected.entry(number);
+        check_number(rt, "entry", number as usize, is_same);
     }
 }
 
 /// The referee's text of the first layout with 65535 entries, which are those of this text of the
 /// second.
-fn old_text(alloc: Global, text: &[u8]) -> Result<Vec<u8>, Fail> {
-    let mut old = Vec::new(alloc);
-    old.extend_from_slice(&OLD_REFEREE_SAVE[..19])?;
+fn old_text(alloc: Global, text: &[u8]) -> Result<Vec<u8>, AllocError> {
+    let mut old = Vec::from_slice(alloc, &OLD_REFEREE_SAVE[..19])?;
     old.extend_from_slice(&[0xff, 0xff])?;
-    old.extend_from_slice(text.get(24..).ok_or("no entries")?)?;
+    old.extend_from_slice(text.get(24..).unwrap_or(&[]))?;
     Ok(old)
 }
 
 /// A text of the first layout tells up to 65535 entries.
 #[test]
-fn longest_old_record(rt: HostRuntime) -> Result<(), Fail> {
-    let saved = save_of(&rt, 0, 2, long_record(rt.alloc(), 32767)?);
-    let old = old_text(rt.alloc(), text_of(&rt, saved))?;
-    check_long(&rt, kept(&rt, &old), saved, 65535);
-    Ok(())
+fn longest_old_record(rt: HostRuntime) {
+    let saved = save_of(&rt, 0, 2, long_record(&rt, rt.alloc(), 32767));
+    let old = old_text(rt.alloc(), text_of(&rt, saved))
+        .expect(&rt, "memory")
+        .leak();
+    check_long(&rt, kept(&rt, old), saved, 65535);
 }
 
 /// What is loaded again of a long record has as many entries, and the same.
 fn check_long(rt: &impl Abort, again: &Saved, saved: &Saved, count: Number) {
-    assert!(rt; saved.log.len() == count);
+    check_number(rt, "entries", count as usize, saved.log.len() == count);
     check_entries(rt, &again.log, &saved.log);
 }
 
@@ -213,23 +225,23 @@ pub(crate) fn text_of(rt: &(impl AllocGlobal + Abort), saved: &Saved) -> &'stati
 
 /// A text of the second layout tells more.
 #[test]
-fn longer_record(rt: HostRuntime) -> Result<(), Fail> {
-    let saved = save_of(&rt, 2, 4294967295, long_record(rt.alloc(), 32768)?);
+fn longer_record(rt: HostRuntime) {
+    let saved = save_of(&rt, 2, 4294967295, long_record(&rt, rt.alloc(), 32768));
     let text = text_of(&rt, saved);
-    assert!(rt; text.len() == 24 + 3 + 32768 * 3);
+    check_row(&rt, "number of bytes", text.len() == 24 + 3 + 32768 * 3);
     let again = kept(&rt, text);
-    assert!(rt; (again.party, again.save) == (2, 4294967295));
+    let is_last = (again.party, again.save) == (2, 4294967295);
+    check_row(&rt, "the last save of party 2", is_last);
     check_long(&rt, again, saved, 65537);
-    Ok(())
 }
 
 /// What stands before the entries has at most 38 bytes, with the claim of a turn of four steps; an
 /// entry has at most ten.
 #[test]
 fn longest_texts(rt: HostRuntime) {
-    assert!(rt; MOST_ENTRIES == 1000000);
-    assert!(rt; LONGEST_SAVED_TEXT == 38 + 1000000 * 10);
-    assert!(rt; MOST_DATAGRAM_BYTES == 128);
+    check_row(&rt, "entries", MOST_ENTRIES == 1000000);
+    check_row(&rt, "saved text", LONGEST_SAVED_TEXT == 38 + 1000000 * 10);
+    check_row(&rt, "datagram", MOST_DATAGRAM_BYTES == 128);
 }
 
 /// The slot and the number of the save that follows one of the referee's, who holds nothing.
@@ -243,12 +255,12 @@ fn slot_after(alloc: Global, last: u32) -> Result<(Slot, u32), SaveRefusal> {
 
 #[test]
 fn first_and_last_saves(rt: HostRuntime) {
-    for (last, expected) in [
-        (0, Ok((Slot::One, 1))),
-        (1, Ok((Slot::Zero, 2))),
-        (4294967294, Ok((Slot::One, 4294967295))),
-        (4294967295, Err(SaveRefusal::SavesSpent)),
-    ] {
-        assert!(rt; slot_after(rt.alloc(), last) == expected, "after {last}");
-    }
+    let first = slot_after(rt.alloc(), 0);
+    check_row(&rt, "first save", first == Ok((Slot::One, 1)));
+    let second = slot_after(rt.alloc(), 1);
+    check_row(&rt, "second save", second == Ok((Slot::Zero, 2)));
+    let last = slot_after(rt.alloc(), 4294967294);
+    check_row(&rt, "last save", last == Ok((Slot::One, 4294967295)));
+    let none = slot_after(rt.alloc(), 4294967295);
+    check_row(&rt, "no save", none == Err(SaveRefusal::SavesSpent));
 }

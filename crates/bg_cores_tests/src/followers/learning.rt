@@ -4,6 +4,7 @@ use super::watchers::{Row as WatcherRow, check_rows as check_watcher, fresh_by};
 use super::{
     DOUBLED, HALF_A_MOVE, MOVED, NONE, OFFERED, OFFERED_A_GAMMON, OPENING, OTHER_OPENING, REJECTED,
 };
+use crate::checks::{check_number, check_row};
 use bg_board::Player;
 use bg_match::{LengthFault, Number, Rules};
 use bg_party::{Learned, Seat, Watcher};
@@ -59,12 +60,18 @@ fn by(watcher: &Watcher, number: Number) -> Option<Player> {
 fn packets_that_overlap(rt: HostRuntime) {
     let watcher = fresh_by(&rt, 255, Rules::One);
     check_watcher(&rt, watcher, &OVERLAPS);
-    assert!(rt; by(watcher, 3) == Some(Player::O));
+    check_row(
+        &rt,
+        "who acted by entry 3",
+        by(watcher, 3) == Some(Player::O),
+    );
 }
 
-/// Why there is no watcher of a match of this length.
-fn refusal_of_a_watcher(alloc: Global, length: u8) -> Option<LengthFault> {
-    Watcher::fresh(alloc, FIRST_WATCHER, 1, length, Rules::One).err()
+/// Whether there is neither a watcher nor a seat of a match of this length, since it is out of range.
+fn is_refused(alloc: Global, length: u8) -> bool {
+    let refused = LengthFault::LengthOutOfRange;
+    Watcher::fresh(alloc, FIRST_WATCHER, 1, length, Rules::One).err() == Some(refused)
+        && id_of_a_seat(alloc, length) == Err(refused)
 }
 
 /// The id of a seat's match 7, of this length.
@@ -78,18 +85,9 @@ fn id_of_a_seat(alloc: Global, length: u8) -> Result<u64, LengthFault> {
 
 #[test]
 fn lengths(rt: HostRuntime) {
-    let refused = LengthFault::LengthOutOfRange;
-    for length in [0, 100] {
-        assert!(rt;
-            refusal_of_a_watcher(rt.alloc(), length) == Some(refused),
-            "{length}"
-        );
-        assert!(rt;
-            id_of_a_seat(rt.alloc(), length) == Err(refused),
-            "{length}"
-        );
-    }
-    assert!(rt; id_of_a_seat(rt.alloc(), 99) == Ok(7));
+    check_number(&rt, "length", 0, is_refused(rt.alloc(), 0));
+    check_number(&rt, "length", 100, is_refused(rt.alloc(), 100));
+    check_number(&rt, "length", 99, id_of_a_seat(rt.alloc(), 99) == Ok(7));
 }
 
 /// Whether a seat learns an offer to resign under this number, and its rejection, which may have
@@ -140,7 +138,7 @@ fn refused_growths(rt: HostRuntime) -> Result<(), Fail> {
 }
 
 fn check_growths(rt: &impl Abort, seat: &mut Seat) {
-    assert!(rt; learns_the_opening(seat));
-    assert!(rt; learns_eleven_offers(seat));
+    check_row(rt, "the opening", learns_the_opening(seat));
+    check_row(rt, "eleven offers", learns_eleven_offers(seat));
     check_rows(rt, seat, &AFTER_ELEVEN_OFFERS);
 }

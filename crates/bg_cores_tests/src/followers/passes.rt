@@ -6,6 +6,7 @@ ghost use Rattle.bg_wire.specs.Packets.PacketText.{IsPacket};
 use super::seats::{chooses, fresh};
 use super::want;
 use super::watchers::fresh_by;
+use crate::checks::{check_number, check_row};
 use arrayvec::ArrayVec;
 use bg_board::Player;
 use bg_match::{Action, Actor, Entry, Level, Number, Rules};
@@ -100,7 +101,7 @@ fn asks(seat: &mut Seat) -> bool {
 /// Every call gives what its row says.
 fn check_rows(rt: &impl Abort, seat: &mut Seat, rows: &[Row]) {
     for (i, row) in rows.iter().enumerate() {
-        assert!(rt; gives(seat, row), "row {i}");
+        check_number(rt, "row", i, gives(seat, row));
     }
 }
 
@@ -113,16 +114,18 @@ const TO_THE_PASS: [Row; 6] = [
     Row::Passed,
 ];
 
+const NOT_THE_TURN_OF_X: [Row; 1] = [Row::Roll(Err(ChooseFault::NotYourTurn))];
+
+const THE_TURN_OF_O: [Row; 1] = [Row::Roll(Ok(7))];
+
 #[test]
 fn nobody_claims_where_a_turn_is_to_be_passed(rt: HostRuntime) {
-    for (player, roll) in [
-        (Player::X, Err(ChooseFault::NotYourTurn)),
-        (Player::O, Ok(7)),
-    ] {
-        let seat = fresh(&rt, player, Rules::Two);
-        check_rows(&rt, seat, &TO_THE_PASS);
-        check_rows(&rt, seat, &[Row::Roll(roll)]);
-    }
+    let seat = fresh(&rt, Player::X, Rules::Two);
+    check_rows(&rt, seat, &TO_THE_PASS);
+    check_rows(&rt, seat, &NOT_THE_TURN_OF_X);
+    let seat = fresh(&rt, Player::O, Rules::Two);
+    check_rows(&rt, seat, &TO_THE_PASS);
+    check_rows(&rt, seat, &THE_TURN_OF_O);
 }
 
 const NO_PASS: [Row; 4] = [
@@ -150,11 +153,9 @@ const OTHER_RULES: [Row; 2] = [Row::TheFive(2, Learned::OtherMatch), Row::Asks];
 #[test]
 fn other_rules_are_another_match(rt: HostRuntime) {
     let watcher = fresh_by(&rt, FIRST_WATCHER, Rules::Two);
-    for (rules, learned, count) in [(1, Learned::OtherMatch, 0), (2, Learned::Grew(5), 5)] {
-        assert!(rt;
-            shown(watcher, rules) == Some((learned, count)),
-            "rules {rules}"
-        );
-    }
+    let first = shown(watcher, 1) == Some((Learned::OtherMatch, 0));
+    check_row(&rt, "the first rules", first);
+    let second = shown(watcher, 2) == Some((Learned::Grew(5), 5));
+    check_row(&rt, "the second rules", second);
     check_rows(&rt, fresh(&rt, Player::O, Rules::One), &OTHER_RULES);
 }

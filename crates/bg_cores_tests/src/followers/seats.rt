@@ -1,6 +1,7 @@
 //! Rows of calls of a seat with what each gives: the words of the tests of seats.
 use super::saves::is_save;
 use super::{MOVED, NONE, OPENING, entries, half_a_move, opening_move, packet, want};
+use crate::checks::{check_number, check_row};
 use crate::lasting::lasting;
 use bg_board::{Die, Player};
 use bg_match::{Action, Entry, Number, Rules};
@@ -150,7 +151,7 @@ fn has(seat: &Seat, row: &Row) -> bool {
 /// Every call gives what its row says.
 pub(crate) fn check_rows(rt: &impl Abort, seat: &mut Seat, rows: &[Row]) {
     for (i, row) in rows.iter().enumerate() {
-        assert!(rt; gives(seat, row), "row {i}");
+        check_number(rt, "row", i, gives(seat, row));
     }
 }
 
@@ -180,6 +181,6 @@ pub(crate) fn after_the_opening(
     player: Player,
 ) -> &'static mut Seat {
     let seat = fresh(rt, player, Rules::One);
-    assert!(rt; learns_the_opening(seat));
+    check_row(rt, "the opening", learns_the_opening(seat));
     seat
 }

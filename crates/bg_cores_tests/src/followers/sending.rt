@@ -1,5 +1,6 @@
 //! When followers send.
 use super::watchers::fresh;
+use crate::checks::check_row;
 use bg_party::Watcher;
 
 /// Whether a watcher sends on the ticks 1, 2, 4, 8, 16, 32, 64, 96 and 128, and on no other up to
@@ -16,5 +17,5 @@ fn keeps_the_gaps(watcher: &mut Watcher) -> bool {
 
 #[test]
 fn gaps_between_ticks(rt: HostRuntime) {
-    assert!(rt; keeps_the_gaps(fresh(&rt)));
+    check_row(&rt, "gaps", keeps_the_gaps(fresh(&rt)));
 }

@@ -1,5 +1,6 @@
 //! Rows of calls of a watcher with what each gives: the words of the tests of watchers.
 use super::{entries, opening_move, want};
+use crate::checks::check_number;
 use crate::lasting::lasting;
 use bg_match::{Entry, Number, Rules};
 use bg_party::{Learned, Watcher};
@@ -78,6 +79,6 @@ fn asks(watcher: &mut Watcher, held: Number) -> bool {
 /// Every call gives what its row says.
 pub(crate) fn check_rows(rt: &impl Abort, watcher: &mut Watcher, rows: &[Row]) {
     for (i, row) in rows.iter().enumerate() {
-        assert!(rt; gives(watcher, row), "row {i}");
+        check_number(rt, "row", i, gives(watcher, row));
     }
 }

@@ -1,6 +1,7 @@
 //! Early entries.
 use super::watchers::{Row, check_rows, fresh, learns};
 use super::{MOVED, MOVED_OTHERWISE, NONE, OFFERED, OPENING, REJECTED};
+use crate::checks::check_row;
 use bg_party::{Learned, Watcher};
 
 const AFTER_A_GAP: [Row; 8] = [
@@ -100,7 +101,7 @@ const THE_REST: [Row; 2] = [
 fn how_far_the_window_goes(rt: HostRuntime) {
     let watcher = fresh(&rt);
     check_rows(&rt, watcher, &BEYOND_THE_WINDOW);
-    assert!(rt; learns_up_to_29(watcher));
+    check_row(&rt, "up to 29", learns_up_to_29(watcher));
     check_rows(&rt, watcher, &THE_REST);
 }
 
@@ -122,6 +123,6 @@ const A_FULL_WINDOW: [Row; 2] = [
 #[test]
 fn a_full_window(rt: HostRuntime) {
     let watcher = fresh(&rt);
-    assert!(rt; keeps_up_to_33(watcher));
+    check_row(&rt, "up to 33", keeps_up_to_33(watcher));
     check_rows(&rt, watcher, &A_FULL_WINDOW);
 }

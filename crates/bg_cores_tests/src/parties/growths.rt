@@ -1,11 +1,10 @@
 //! Refused growths.
+use crate::checks::check_row;
 use crate::parties::{TERMS, resigns};
 use bg_parties::{OpenFault, Party, RoleFault, Taken};
 use bg_referee::{DueFault, TakeOutcome};
 use bg_wire::{RestoreRefusal, SaveRefusal};
-use std::alloc::{AllocError, Global};
-use std::process::Abort;
-use std::test::Fail;
+use std::alloc::Global;
 
 /// Whether the opening 3 1 is entry 1, also where the memory for it is refused once.
 fn opens(referee: &mut Party) -> bool {
@@ -31,64 +30,68 @@ fn gives_up(referee: &mut Party) -> bool {
 
 /// The text of the next save, which is then marked, also where the memory for it is refused once.
 /// It lasts.
-fn saved(referee: &mut Party) -> Result<&'static [u8], Fail> {
-    let (_, save, text) = match referee.to_save() {
-        Err(RoleFault::Core(SaveRefusal::Memory)) => referee.to_save()?,
-        first => first?,
+fn saved(referee: &mut Party) -> Option<&'static [u8]> {
+    let next = match referee.to_save() {
+        Err(RoleFault::Core(SaveRefusal::Memory)) => referee.to_save(),
+        next => next,
     };
+    let (_, save, text) = next.ok()?;
     let text = text.leak();
-    referee.mark_saved(save)?;
-    Ok(text)
+    referee.mark_saved(save).ok()?;
+    Some(text)
 }
 
 /// The referee that a saved text restores, also where the memory for it is refused once.
-fn resumed(alloc: Global, text: &[u8]) -> Result<Party, Fail> {
+fn resumed(alloc: Global, text: &[u8]) -> Result<Party, OpenFault> {
     match Party::open(alloc, 0, 1, TERMS, b"", text) {
         Err(OpenFault::Restore(RestoreRefusal::Memory)) => {
-            Ok(Party::open(alloc, 0, 1, TERMS, b"", text)?)
+            Party::open(alloc, 0, 1, TERMS, b"", text)
         }
-        first => Ok(first?),
+        first => first,
     }
 }
 
-/// Fails where the growth that comes next is refused: so `tools/checks/refuse_growths` learns how
-/// many came before.
-fn check_no_growth_is_left(alloc: Global) -> Result<(), Fail> {
-    match Vec::<u8>::with_capacity(alloc, 1) {
-        Ok(_) => Ok(()),
-        Err(AllocError) => Err(Fail::from("no growth is left")),
+/// What a referee saves who opens the game.
+fn first_text(alloc: Global) -> Option<&'static [u8]> {
+    let mut referee = resumed(alloc, b"").ok()?;
+    let text = if opens(&mut referee) {
+        saved(&mut referee)
+    } else {
+        None
+    };
+    if referee.saved() == Some(1) {
+        text
+    } else {
+        None
     }
 }
 
-/// What a referee saves who has opened the game.
-fn first_text(rt: &(impl AllocGlobal + Abort)) -> Result<&'static [u8], Fail> {
-    let mut referee = Party::open(rt.alloc(), 0, 1, TERMS, b"", b"")?;
-    assert!(rt; opens(&mut referee));
-    let text = saved(&mut referee)?;
-    assert!(rt; referee.saved() == Some(1));
-    Ok(text)
+/// What the referee of this text saves once X gives the match up.
+fn second_text(alloc: Global, first: &[u8]) -> Option<&'static [u8]> {
+    let mut referee = resumed(alloc, first).ok()?;
+    if gives_up(&mut referee) {
+        saved(&mut referee)
+    } else {
+        None
+    }
 }
 
-/// What the referee of this text saves once X has given the match up.
-fn second_text(rt: &(impl AllocGlobal + Abort), first: &[u8]) -> Result<&'static [u8], Fail> {
-    let mut referee = resumed(rt.alloc(), first)?;
-    assert!(rt; gives_up(&mut referee));
-    saved(&mut referee)
-}
-
-/// The referee of this text holds both entries.
-fn check_second(rt: &(impl AllocGlobal + Abort), second: &[u8]) -> Result<(), Fail> {
-    let referee = resumed(rt.alloc(), second)?;
-    assert!(rt; referee.held().len() == 2);
-    Ok(())
+/// Whether the referee of this text holds both entries.
+fn holds_both(alloc: Global, second: &[u8]) -> bool {
+    match resumed(alloc, second) {
+        Ok(referee) => referee.held().len() == 2,
+        Err(_) => false,
+    }
 }
 
 /// Where memory is refused nothing has changed, and the same call then succeeds. No run of the
-/// tests refuses any, but `tools/checks/refuse_growths` refuses each growth in turn.
+/// tests refuses any, but `tools/checks/refuse_growths` refuses each growth in turn, and learns by
+/// the last row how many came before.
 #[test]
-fn refused_growths(rt: HostRuntime) -> Result<(), Fail> {
-    let first = first_text(&rt)?;
-    let second = second_text(&rt, first)?;
-    check_second(&rt, second)?;
-    check_no_growth_is_left(rt.alloc())
+fn refused_growths(rt: HostRuntime) {
+    let first = first_text(rt.alloc()).expect(&rt, "the text of the opening");
+    let second = second_text(rt.alloc(), first).expect(&rt, "the text of both entries");
+    check_row(&rt, "both entries", holds_both(rt.alloc(), second));
+    let growth = Vec::<u8>::with_capacity(rt.alloc(), 1);
+    check_row(&rt, "no growth is left", growth.is_ok());
 }

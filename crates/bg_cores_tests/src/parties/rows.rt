@@ -1,4 +1,5 @@
 //! Rows of calls of a party with what each comes to: the words of the tests of parties.
+use crate::checks::check_number;
 use crate::parties::{resigns, sends, want};
 use bg_match::{Action, Level, Number};
 use bg_parties::{NotUnderWay, Party, RoleFault, Taken};
@@ -151,6 +152,6 @@ fn has(party: &Party, row: &Row) -> bool {
 /// Every call comes to what its row says.
 pub(crate) fn check_rows(rt: &impl Abort, party: &mut Party, rows: &[Row]) {
     for (i, row) in rows.iter().enumerate() {
-        assert!(rt; comes_to(party, row), "row {i}");
+        check_number(rt, "row", i, comes_to(party, row));
     }
 }

@@ -1,4 +1,5 @@
 //! What ends a save that is under way, and what does not.
+use crate::checks::check_row;
 use crate::parties::rows::{Gives, Row, check_rows};
 use crate::parties::{fresh, want};
 use bg_parties::{NotUnderWay, Party, RoleFault, Taken};
@@ -9,7 +10,7 @@ use std::process::Abort;
 /// A referee who has opened the match with 3 1, for X.
 fn opened(rt: &(impl AllocGlobal + Abort)) -> &'static mut Party {
     let referee = fresh(rt, 0);
-    assert!(rt; referee.due(12) == Ok(1));
+    check_row(rt, "the opening", referee.due(12) == Ok(1));
     referee
 }
 
@@ -123,6 +124,6 @@ fn claim_ends_the_save_of_a_seat(rt: HostRuntime) {
     check_rows(&rt, referee, &THE_OPENING_SAVED);
     let seat = fresh(&rt, 1);
     check_rows(&rt, seat, &[Row::Save(Slot::One, 1)]);
-    assert!(rt; grows_by_what_is_told(seat, referee));
+    check_row(&rt, "what is told", grows_by_what_is_told(seat, referee));
     check_rows(&rt, seat, &OF_A_SEAT);
 }

@@ -2,6 +2,7 @@
 use super::packets::{OFFER_A_GAMMON, THREE_ONE, X, claim_gives};
 use super::referees::{offers, opened};
 use super::saves::size_of_save;
+use crate::checks::check_row;
 use bg_match::Rules;
 use bg_referee::{DueFault, Referee, TakeOutcome};
 use bg_wire::Slot;
@@ -26,11 +27,13 @@ fn refused_growths(rt: HostRuntime) -> Result<(), Fail> {
 }
 
 fn check_growths(rt: &impl Abort, referee: &mut Referee) {
-    assert!(rt; opens(referee));
-    assert!(rt; offers(referee, 20));
+    check_row(rt, "the opening", opens(referee));
+    check_row(rt, "ten offers", offers(referee, 20));
     // What stands before the entries has 24 bytes, the opening three, each of ten offers two, each
     // rejection one.
-    assert!(rt; size_of_save(referee) == Ok((Slot::One, 1, 56)));
-    assert!(rt; referee.saved() == 0);
-    assert!(rt; claim_gives(referee, X, 22, &OFFER_A_GAMMON, 0, TakeOutcome::Ahead));
+    let is_sized = size_of_save(referee) == Ok((Slot::One, 1, 56));
+    check_row(rt, "the size of the save", is_sized);
+    check_row(rt, "nothing is saved", referee.saved() == 0);
+    let is_ahead = claim_gives(referee, X, 22, &OFFER_A_GAMMON, 0, TakeOutcome::Ahead);
+    check_row(rt, "a claim ahead", is_ahead);
 }

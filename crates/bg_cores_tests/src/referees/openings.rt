@@ -2,6 +2,7 @@
 use super::packets::{NO_DICE, SIX_SIX, THREE_ONE};
 use super::referees::fresh;
 use super::rows::{Row, Told, check_rows};
+use crate::checks::check_number;
 use bg_match::{LengthFault, Rules};
 use bg_referee::{DueFault, Referee};
 use std::alloc::Global;
@@ -37,10 +38,7 @@ fn length_of(alloc: Global, length: u8) -> Result<u8, LengthFault> {
 #[test]
 fn lengths(rt: HostRuntime) {
     let refused = Err(LengthFault::LengthOutOfRange);
-    for (length, expected) in [(0, refused), (100, refused), (99, Ok(99))] {
-        assert!(rt;
-            length_of(rt.alloc(), length) == expected,
-            "length {length}"
-        );
-    }
+    check_number(&rt, "length", 0, length_of(rt.alloc(), 0) == refused);
+    check_number(&rt, "length", 100, length_of(rt.alloc(), 100) == refused);
+    check_number(&rt, "length", 99, length_of(rt.alloc(), 99) == Ok(99));
 }

@@ -1,5 +1,6 @@
 //! Referees after the first entries, saved or not, and what brings them there.
 use super::packets::{MOVE, NO_DICE, O, OFFER, REJECT, THREE_ONE, X, claim_gives, claimed};
+use crate::checks::check_row;
 use crate::lasting::lasting;
 use bg_match::{Number, Rules};
 use bg_referee::{DueFault, Referee, TakeOutcome};
@@ -29,21 +30,22 @@ pub(crate) fn fresh(rt: &(impl AllocGlobal + Abort)) -> &'static mut Referee {
 /// A referee who has opened the game with 3 1, and saved nothing.
 pub(crate) fn with_the_opening(rt: &(impl AllocGlobal + Abort)) -> &'static mut Referee {
     let referee = fresh(rt);
-    assert!(rt; opened(referee, THREE_ONE) == Ok(1));
+    check_row(rt, "the opening", opened(referee, THREE_ONE) == Ok(1));
     referee
 }
 
 /// A referee who has opened the game with 3 1, and saved that.
 pub(crate) fn after_the_opening(rt: &(impl AllocGlobal + Abort)) -> &'static mut Referee {
     let referee = with_the_opening(rt);
-    assert!(rt; save(referee) == Ok((Slot::One, 1)));
+    check_row(rt, "the first save", save(referee) == Ok((Slot::One, 1)));
     referee
 }
 
 /// A referee who holds the opening 3 1 and 8-5 6-5, and has saved the first.
 pub(crate) fn after_the_move(rt: &(impl AllocGlobal + Abort)) -> &'static mut Referee {
     let referee = after_the_opening(rt);
-    assert!(rt; claim_gives(referee, X, 2, &MOVE, NO_DICE, TakeOutcome::Accepted(2)));
+    let is_moved = claim_gives(referee, X, 2, &MOVE, NO_DICE, TakeOutcome::Accepted(2));
+    check_row(rt, "the move", is_moved);
     referee
 }
 

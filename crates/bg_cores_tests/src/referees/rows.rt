@@ -6,6 +6,7 @@ use super::packets::{
 use super::pushes::{first_push_goes_to, pushes_to, pushes_to_both};
 use super::referees::{offers, save};
 use super::saves::is_next_save;
+use crate::checks::check_number;
 use bg_match::{Actor, Entry, EntryFault, Number, Rules};
 use bg_referee::{DueFault, Referee, TakeOutcome};
 use bg_wire::Slot;
@@ -227,6 +228,6 @@ fn holds_told(referee: &Referee, number: Number, told: Told) -> bool {
 /// Every call comes to what its row says.
 pub(crate) fn check_rows(rt: &impl Abort, referee: &mut Referee, rows: &[Row]) {
     for (i, row) in rows.iter().enumerate() {
-        assert!(rt; comes_to(referee, row), "row {i}");
+        check_number(rt, "row", i, comes_to(referee, row));
     }
 }

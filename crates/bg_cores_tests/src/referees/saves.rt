@@ -1,6 +1,7 @@
 //! The texts of saves, and referees that go on from them.
 use super::referees::after_the_move;
 use super::rows::{Row, check_rows};
+use crate::checks::check_row;
 use bg_match::Rules;
 use bg_referee::Referee;
 use bg_wire::{REFEREE, SaveRefusal, Slot, restore};
@@ -91,7 +92,9 @@ fn goes_on_from_the_last_save(alloc: Global) -> bool {
 
 #[test]
 fn resumes(rt: HostRuntime) {
-    assert!(rt; goes_on_from_the_second_save(rt.alloc(), &SECOND_SAVE));
-    assert!(rt; goes_on_from_the_second_save(rt.alloc(), &SECOND_SAVE_OF_OLD));
-    assert!(rt; goes_on_from_the_last_save(rt.alloc()));
+    let second = goes_on_from_the_second_save(rt.alloc(), &SECOND_SAVE);
+    check_row(&rt, "the second save", second);
+    let of_old = goes_on_from_the_second_save(rt.alloc(), &SECOND_SAVE_OF_OLD);
+    check_row(&rt, "the second save of old", of_old);
+    check_row(&rt, "the last save", goes_on_from_the_last_save(rt.alloc()));
 }

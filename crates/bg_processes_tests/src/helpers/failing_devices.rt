@@ -69,14 +69,6 @@ impl<'a, D> Failing<'a, D> {
             written: Ok(()),
         }
     }
-
-    /// The same over a device that may not be there.
-    pub(crate) fn over<E>(device: Result<D, E>, calls: &'a Calls) -> Result<Failing<'a, D>, E> {
-        match device {
-            Ok(device) => Ok(Failing::new(device, calls)),
-            Err(error) => Err(error),
-        }
-    }
 }
 
 fn try_send<D: Link>(

@@ -3,10 +3,10 @@
 //! A script has a line for each thing that happens or is to be seen, with parties by their numbers:
 //! - "clock 1000": the clock shows so many milliseconds;
 //! - "send 1 0 x-wants": the first party sends a packet to the second;
-//! - "can't send 1 2 x-wants": that fails;
+//! - "unsent 1 2 x-wants": that fails;
 //! - "stray 0 64 rubbish": a stranger sends bytes so often to the party's port;
 //! - "take 0 x-wants", "take 0 nothing": the party takes a packet, or there is nothing to take;
-//! - "take as 1 0 nothing": the same for the first party, from the socket of the second;
+//! - "take-as 1 0 nothing": the same for the first party, from the socket of the second;
 //! - "ask 1": the party asks whether the referee is there;
 //! - "heard 1 2": so often the party has heard of the referee;
 //! - "told 1 here", "told 1 nothing": the referee has told the party so of the other seat within
@@ -14,11 +14,12 @@
 //! - "rebind 1 3": another process has the first party's port, with the keys of the second;
 //! - "# ..": a comment.
 
+use crate::checks::{check, check_number};
 use crate::helpers::devices::failures;
 use crate::helpers::hosts::{Host, Hosted};
 use crate::helpers::lasting::lasting;
 use crate::helpers::script_words::{packet_of, presence_of};
-use crate::helpers::tables::{free_port, keys_of};
+use crate::helpers::tables::real_devices::{free_port, keys_of};
 use crate::helpers::words::{number, small_number, word};
 use arrayvec::ArrayVec;
 use bg_processes::{Failures, PartySocket};
@@ -58,7 +59,8 @@ impl Clock for SetClock {
 
 pub(crate) fn datagram(rt: &impl Abort, to: u8, bytes: &[u8]) -> Datagram {
     let mut sent = ArrayVec::new();
-    assert!(rt; sent.try_extend_from_slice(bytes).is_ok());
+    let fits = sent.try_extend_from_slice(bytes).is_ok();
+    check(rt, fits, "bytes of a datagram");
     Datagram {
         to,
         bytes: PacketBytes { bytes: sent },
@@ -77,7 +79,8 @@ pub(crate) fn takes<L: Link>(link: &mut L, party: u8, expected: Option<&[u8]>) -
 /// Whether a link sends these bytes. Where it does not, it has failed, and nothing lacked memory.
 pub(crate) fn sends<L: Link>(rt: &impl Abort, link: &mut L, to: u8, bytes: &[u8]) -> bool {
     let sent = link.send(&datagram(rt, to, bytes));
-    assert!(rt; sent != Err(DeviceFault::Memory), "to party {to}");
+    let has_memory = sent != Err(DeviceFault::Memory);
+    check_number(rt, "memory for what goes to party", to.into(), has_memory);
     sent.is_ok()
 }
 
@@ -152,104 +155,86 @@ impl<'a, R: Host> Sockets<'a, R> {
         self.place(party).as_mut().expect(rt, "a socket")
     }
 
-    /// Whether a party sends a packet to another: "1 0 x-wants".
-    fn sends(&mut self, words: &str) -> bool {
+    /// A stranger sends bytes so often to a party's port.
+    fn stray(&mut self, party: u8, times: u8, bytes: Option<&[u8]>) {
+        let port = self.port.saturating_add(u16::from(party));
+        let bytes = bytes.expect(self.rt, "bytes");
+        send_from_elsewhere(self.rt, port, bytes, times);
+    }
+
+    /// Whether a line of two parties, or of a party and a number, comes to what it says of a packet
+    /// or of nothing.
+    fn is_so_of_two(&mut self, verb: &str, party: u8, other: u8, packet: &str) -> bool {
+        let packet = packet_of(self.rt, packet);
+        if verb == "send" {
+            self.sends(party, other, packet)
+        } else if verb == "unsent" {
+            !self.sends(party, other, packet)
+        } else if verb == "take-as" {
+            takes(self.of(other), party, packet)
+        } else if verb == "stray" {
+            self.stray(party, other, packet);
+            true
+        } else {
+            false
+        }
+    }
+
+    /// Whether a party sends a packet to another.
+    fn sends(&mut self, from: u8, to: u8, packet: Option<&[u8]>) -> bool {
+        let packet = packet.expect(self.rt, "a packet");
         let rt = self.rt;
-        let from = small_number(rt, word(rt, words, 0));
-        let to = small_number(rt, word(rt, words, 1));
-        let packet = packet_of(rt, word(rt, words, 2)).expect(rt, "a packet");
         sends(rt, self.of(from), to, packet)
     }
 
-    /// Whether a party takes a packet or nothing: "0 x-wants".
-    fn takes(&mut self, words: &str) -> bool {
+    /// Whether a line of a party comes to what it says; behind the party stands a word.
+    fn is_so_of(&mut self, verb: &str, party: u8, words: &str) -> bool {
         let rt = self.rt;
-        let party = small_number(rt, word(rt, words, 0));
-        takes(self.of(party), party, packet_of(rt, word(rt, words, 1)))
-    }
-
-    /// The same from the socket of another one: "1 0 nothing".
-    fn takes_as(&mut self, words: &str) -> bool {
-        let rt = self.rt;
-        let party = small_number(rt, word(rt, words, 0));
-        let socket = small_number(rt, word(rt, words, 1));
-        takes(self.of(socket), party, packet_of(rt, word(rt, words, 2)))
-    }
-
-    /// Whether a party has heard so often of the referee: "1 2".
-    fn has_heard(&mut self, words: &str) -> bool {
-        let rt = self.rt;
-        let party = small_number(rt, word(rt, words, 0));
-        self.of(party).heard() == number(rt, word(rt, words, 1))
-    }
-
-    /// Whether a party was told so of the other seat: "1 here".
-    fn is_told(&mut self, words: &str) -> bool {
-        let rt = self.rt;
-        let party = small_number(rt, word(rt, words, 0));
-        self.of(party).other_seat() == presence_of(rt, word(rt, words, 1))
-    }
-
-    /// A stranger sends bytes so often to a party's port: "0 64 rubbish".
-    fn stray(&mut self, words: &str) {
-        let rt = self.rt;
-        let party = small_number(rt, word(rt, words, 0));
-        let times = number(rt, word(rt, words, 1));
-        let bytes = packet_of(rt, word(rt, words, 2)).expect(rt, "bytes");
-        let port = self.port.saturating_add(u16::from(party));
-        send_from_elsewhere(rt, port, bytes, times);
-    }
-
-    /// What a line says happens, and can't fail.
-    fn happen(&mut self, line: &str) {
-        let rt = self.rt;
-        if let Some(party) = line.strip_prefix("ask ") {
-            self.of(small_number(rt, party)).ask();
-        } else if let Some(milliseconds) = line.strip_prefix("clock ") {
-            let milliseconds = number(rt, milliseconds);
-            self.clock.milliseconds.set(u64::from(milliseconds));
-        } else if let Some(words) = line.strip_prefix("rebind ") {
-            let party = small_number(rt, word(rt, words, 0));
-            self.rebind(party, small_number(rt, word(rt, words, 1)));
+        let said = word(rt, words, 1);
+        if verb == "take" {
+            takes(self.of(party), party, packet_of(rt, said))
+        } else if verb == "told" {
+            self.of(party).other_seat() == presence_of(rt, said)
+        } else if verb == "heard" {
+            self.of(party).heard() == number(rt, said)
+        } else if verb == "rebind" {
+            self.rebind(party, small_number(rt, said));
+            true
         } else {
-            self.stray(line.strip_prefix("stray ").expect(rt, line));
+            self.is_so_of_two(verb, party, small_number(rt, said), word(rt, words, 2))
         }
     }
 
     /// Whether a line comes to what it says.
     fn is_so(&mut self, line: &str) -> bool {
-        if let Some(words) = line.strip_prefix("send ") {
-            self.sends(words)
-        } else if let Some(words) = line.strip_prefix("can't send ") {
-            !self.sends(words)
-        } else if let Some(words) = line.strip_prefix("take as ") {
-            self.takes_as(words)
-        } else if let Some(words) = line.strip_prefix("take ") {
-            self.takes(words)
-        } else if let Some(words) = line.strip_prefix("heard ") {
-            self.has_heard(words)
-        } else if let Some(words) = line.strip_prefix("told ") {
-            self.is_told(words)
-        } else {
-            self.happen(line);
+        let rt = self.rt;
+        let (verb, words) = line.split_once(' ').expect(rt, line);
+        if verb == "clock" {
+            let milliseconds = number(rt, words);
+            self.clock.milliseconds.set(u64::from(milliseconds));
             true
+        } else if verb == "ask" {
+            self.of(small_number(rt, words)).ask();
+            true
+        } else {
+            verb == "#" || self.is_so_of(verb, small_number(rt, word(rt, words, 0)), words)
         }
     }
 
     /// Each line of a script comes to what it says.
     pub(crate) fn play(&mut self, script: &str) {
         let rt = self.rt;
-        let mut number = 0u32;
+        let mut number = 0u64;
         for line in script.lines() {
             number = number.wrapping_add(1);
-            let is_so = line.starts_with('#') || self.is_so(line);
+            let is_so = self.is_so(line);
             assert!(rt; is_so, "line {number}: {line}");
         }
     }
 }
 
 /// Sends bytes to a port from a socket that no party has.
-fn send_from_elsewhere(rt: &impl Host, port: u16, bytes: &[u8], times: u32) {
+fn send_from_elsewhere(rt: &impl Host, port: u16, bytes: &[u8], times: u8) {
     let stranger = UdpSocket::bind(rt.host(), (Ipv4Addr::LOCALHOST, 0)).expect(rt, "a socket");
     for _ in 0..times {
         let sent = stranger.send_to(bytes, (Ipv4Addr::LOCALHOST, port));

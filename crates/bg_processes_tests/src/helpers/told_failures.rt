@@ -1,5 +1,6 @@
 //! What devices noted, as lines of words.
 
+use crate::checks::check;
 use crate::helpers::lasting::lasting_text;
 use bg_system::Failures;
 use std::alloc::AllocError;
@@ -32,5 +33,5 @@ pub(crate) fn check_told(
     lines: &str,
 ) {
     let said = told(rt, failures, folder);
-    assert!(rt; said == lines, "{said}");
+    check(rt, said == lines, said);
 }

@@ -1,7 +1,10 @@
 //! Requests to a member, and its answers, as bytes.
 
+use crate::checks::check;
+use crate::helpers::lasting;
 use bg_etcd::{Exchange, Fault};
-use std::test::Fail;
+use std::alloc::Global;
+use std::process::Abort;
 
 /// An answer in two chunks, with a trailer, as etcd gives one to what it refuses.
 const CHUNKED: &[u8] = b"HTTP/1.1 400 Bad Request\r\nTrailer: Grpc-Trailer-Content-Type\r\n\
@@ -12,53 +15,93 @@ const CHUNKED: &[u8] = b"HTTP/1.1 400 Bad Request\r\nTrailer: Grpc-Trailer-Conte
 const WATCH: &[u8] = b"HTTP/1.1 200 OK\r\nTransfer-Encoding: chunked\r\n\r\n\
     4\r\none\n\r\n6\r\ntwo\nth\r\n";
 
-#[test]
-fn an_answer_is_read_byte_by_byte(rt: HostRuntime) -> Result<(), Fail> {
-    let mut exchange = Exchange::new(rt.alloc());
-    let mut sent = Vec::new(rt.alloc());
-    exchange.ask("127.0.0.1:2379", "/v3/kv/range", "{}")?;
-    let count = exchange.write_to(&mut sent)?;
-    let wanted = "POST /v3/kv/range HTTP/1.1\r\nhost: 127.0.0.1:2379\r\n\
-                  content-type: application/json\r\ncontent-length: 2\r\n\r\n{}";
-    assert!(rt; sent.as_slice() == wanted.as_bytes(), "the request");
-    assert!(rt;
-        count == sent.len() && !exchange.wants_write(),
-        "all is sent"
-    );
-    for byte in CHUNKED.iter() {
-        assert!(rt; exchange.answer().is_none(), "not whole before its end");
-        let _ = exchange.read_from(&mut [*byte].as_slice())?;
+/// What is sent to ask for a range.
+const REQUEST: &str = "POST /v3/kv/range HTTP/1.1\r\nhost: 127.0.0.1:2379\r\n\
+    content-type: application/json\r\ncontent-length: 2\r\n\r\n{}";
+
+fn try_asked(alloc: Global, host: &str, path: &str, text: &str) -> Result<Exchange, Fault> {
+    let mut exchange = Exchange::new(alloc);
+    exchange.ask(host, path, text)?;
+    Ok(exchange)
+}
+
+/// An exchange that has asked this. It lasts as long as the process.
+fn asked<'a>(
+    rt: &(impl AllocGlobal + Abort),
+    host: &str,
+    path: &str,
+    text: &str,
+) -> &'a mut Exchange {
+    lasting(rt, try_asked(rt.alloc(), host, path, text).expect(rt, path))
+}
+
+/// Whether all that is sent is this.
+fn sends(alloc: Global, exchange: &mut Exchange, wanted: &str) -> bool {
+    let mut sent = Vec::new(alloc);
+    let count = exchange.write_to(&mut sent).ok();
+    count == Some(sent.len()) && sent.as_slice() == wanted.as_bytes() && !exchange.wants_write()
+}
+
+/// Whether bytes are read one by one, with no whole answer before the last.
+fn reads(exchange: &mut Exchange, bytes: &[u8]) -> bool {
+    for byte in bytes.iter() {
+        let is_whole = exchange.answer().is_some();
+        if is_whole || exchange.read_from(&mut [*byte].as_slice()).is_err() {
+            return false;
+        }
     }
-    let (status, body) = exchange.answer().unwrap_or((0, b"".as_slice()));
-    assert!(rt;
-        status == 400 && body == b"{\"e\":1}".as_slice(),
-        "the answer"
-    );
-    assert!(rt; exchange.is_idle(), "the next request may follow");
-    Ok(())
+    true
 }
 
 #[test]
-fn an_answer_that_is_cut_is_none(rt: HostRuntime) -> Result<(), Fail> {
-    let mut exchange = Exchange::new(rt.alloc());
-    exchange.ask("a", "/", "")?;
-    let _ = exchange.read_from(&mut CHUNKED.get(..40).unwrap_or_default())?;
+fn an_answer_is_read_byte_by_byte(rt: HostRuntime) {
+    check_bytes(&rt);
+}
+
+/// A request is sent, and answered in two chunks.
+fn check_bytes(rt: &(impl AllocGlobal + Abort)) {
+    let exchange = asked(rt, "127.0.0.1:2379", "/v3/kv/range", "{}");
+    check(rt, sends(rt.alloc(), exchange, REQUEST), "the request");
+    check(rt, reads(exchange, CHUNKED), "not whole before its end");
+    let answer = exchange.answer();
+    let wanted = Some((400, b"{\"e\":1}".as_slice()));
+    check(rt, answer == wanted, "the answer");
+    check(rt, exchange.is_idle(), "the next request may follow");
+}
+
+#[test]
+fn an_answer_that_is_cut_is_none(rt: HostRuntime) {
+    let exchange = asked(&rt, "a", "/", "");
+    check(&rt, is_cut(exchange), "cut");
+}
+
+/// Whether an answer that ends after forty bytes is none.
+fn is_cut(exchange: &mut Exchange) -> bool {
+    let begun = exchange.read_from(&mut CHUNKED.get(..40).unwrap_or_default());
     let read = exchange.read_from(&mut b"".as_slice());
-    assert!(rt; matches!(read, Err(Fault::Away(_))), "cut");
-    Ok(())
+    begun.is_ok() && matches!(read, Err(Fault::Away(_)))
+}
+
+/// Whether there is this line next.
+fn is_next(exchange: &mut Exchange, line: &str) -> bool {
+    match exchange.take_line() {
+        Ok(Some(found)) => found.as_slice() == line.as_bytes(),
+        _ => false,
+    }
 }
 
 #[test]
-fn a_watch_gives_lines(rt: HostRuntime) -> Result<(), Fail> {
-    let mut exchange = Exchange::new(rt.alloc());
-    exchange.ask("a", "/v3/watch", "{}")?;
-    let _ = exchange.read_from(&mut WATCH)?;
-    for wanted in ["one", "two"] {
-        let line = exchange.take_line()?;
-        let is_wanted = line.is_some_and(|line| line.as_slice() == wanted.as_bytes());
-        assert!(rt; is_wanted, "a line");
+fn a_watch_gives_lines(rt: HostRuntime) {
+    check_watch(&rt);
+}
+
+/// There are two lines, and the watch goes on.
+fn check_watch(rt: &(impl AllocGlobal + Abort)) {
+    let exchange = asked(rt, "a", "/v3/watch", "{}");
+    check(rt, exchange.read_from(&mut WATCH).is_ok(), "the bytes");
+    for line in ["one", "two"] {
+        check(rt, is_next(exchange, line), line);
     }
-    assert!(rt; exchange.take_line()?.is_none(), "the third is not whole");
-    exchange.check_goes_on()?;
-    Ok(())
+    let goes_on = matches!(exchange.take_line(), Ok(None)) && exchange.check_goes_on().is_ok();
+    check(rt, goes_on, "the third is not whole");
 }

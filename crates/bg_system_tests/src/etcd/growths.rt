@@ -1,7 +1,9 @@
 //! Want of memory: no run of the tests refuses a growth, but `tools/checks/refuse_growths` refuses
 //! each in turn.
 
+use crate::checks::{check, check_no_growth_is_left};
 use bg_etcd::{Fault, news_in, page_in};
+use std::alloc::Global;
 use std::process::Abort;
 
 /// An answer with a file, whose name and text are `a/b` and `one`.
@@ -22,19 +24,24 @@ fn refused_growths_of_answers(rt: HostRuntime) {
 
 fn check_answers(rt: &(impl Abort + AllocGlobal)) {
     let alloc = rt.alloc();
-    let page = page_in(alloc, 200, PAGE);
-    assert!(rt; matches!(page, Ok(_) | Err(Fault::Memory)), "a page");
-    let news = news_in(alloc, LINE);
-    assert!(rt;
-        matches!(news, Ok(_) | Err(Fault::Memory)),
-        "a line of a watch"
-    );
-    let is_refused = match page_in(alloc, 503, REFUSAL) {
+    check(rt, is_page(alloc), "a page");
+    check(rt, is_news(alloc), "a line of a watch");
+    check(rt, is_refused(alloc), "an answer that is an error");
+    check_no_growth_is_left(rt);
+}
+
+fn is_page(alloc: Global) -> bool {
+    matches!(page_in(alloc, 200, PAGE), Ok(_) | Err(Fault::Memory))
+}
+
+fn is_news(alloc: Global) -> bool {
+    matches!(news_in(alloc, LINE), Ok(_) | Err(Fault::Memory))
+}
+
+fn is_refused(alloc: Global) -> bool {
+    match page_in(alloc, 503, REFUSAL) {
         Err(Fault::Refused(503, reason)) => reason.as_str() == "etcdserver: no leader",
         Err(Fault::Memory) => true,
         _ => false,
-    };
-    assert!(rt; is_refused, "an answer that is an error");
-    let growth = Vec::<u8>::with_capacity(alloc, 1);
-    assert!(rt; growth.is_ok(), "no growth is left");
+    }
 }

@@ -1,6 +1,6 @@
 //! Datagrams that are sealed and opened, and those that are not opened.
-use crate::helpers::check;
-use crate::seals::keys::{SECRET, key_of, secret};
+use crate::checks::{check, check_number};
+use crate::seals::keys::{SECRET, key_of};
 use crate::words::{bytes_of, bytes_of_both, small_number, word};
 use bg_seals::{Direction, Key, MOST_PACKET_BYTES, MasterSecret, TAG_BYTES};
 use std::process::Abort;
@@ -82,28 +82,37 @@ const SEALED: [u8; 34] = [
 
 #[test]
 fn flipped_bits(rt: HostRuntime) {
-    assert!(rt; is_opened(&SEALED));
+    check_flipped(&rt);
+}
+
+fn check_flipped(rt: &impl Abort) {
+    check(rt, is_opened(&SEALED), "no bit is flipped");
     for at in 0..SEALED.len() {
         for bit in [1, 2, 4, 8, 16, 32, 64, 128] {
             let mut datagram = SEALED;
             datagram[at] ^= bit;
-            assert!(rt; !is_opened(&datagram), "{at} {bit}");
+            check_number(rt, "a bit of byte", at, !is_opened(&datagram));
         }
     }
 }
 
 #[test]
 fn other_lengths(rt: HostRuntime) {
+    check_lengths(&rt);
+}
+
+/// No part at an end of the datagram is opened, and nothing longer.
+fn check_lengths(rt: &impl Abort) {
     for length in 0..SEALED.len() {
-        assert!(rt; !is_opened(&SEALED[..length]), "{length}");
-        assert!(rt; !is_opened(&SEALED[length + 1..]), "{length}");
+        let is_any = is_opened(&SEALED[..length]) || is_opened(&SEALED[length + 1..]);
+        check_number(rt, "cut at", length, !is_any);
     }
     let mut longer = [0; 35];
     longer[..34].copy_from_slice(&SEALED);
-    assert!(rt; !is_opened(&longer));
+    check(rt, !is_opened(&longer), "a byte more");
     // A tag alone is that of the empty packet, and no packet has more than 128 bytes.
-    assert!(rt; !is_opened(&[0; TAG_BYTES]));
-    assert!(rt; !is_opened(&[0; 145]));
+    check(rt, !is_opened(&[0; TAG_BYTES]), "a tag alone");
+    check(rt, !is_opened(&[0; 145]), "too many bytes");
 }
 
 /// Under what the datagram is not opened: the match and the party of the key, and the way and the
@@ -115,24 +124,27 @@ const OTHERS: &str = "\
 1 3 from 3
 ";
 
-/// Whether the datagram is opened under what a row says.
-fn is_opened_under(rt: &impl Abort, secret: &MasterSecret, row: &str) -> bool {
+/// Whether the datagram is opened under what a row says of keys of a secret.
+fn is_opened_under(rt: &impl Abort, secret: &[u8; 32], row: &str) -> bool {
     let id = small_number(rt, word(rt, row, 0));
-    let key = secret.key_of(u64::from(id), small_number(rt, word(rt, row, 1)));
+    let party = small_number(rt, word(rt, row, 1));
+    let key = MasterSecret::new(secret).key_of(u64::from(id), party);
     let (way, party) = (way(word(rt, row, 2)), small_number(rt, word(rt, row, 3)));
     opened(&key, way, party, &SEALED).is_some()
 }
 
 #[test]
 fn other_matches_parties_and_ways(rt: HostRuntime) {
-    let secret = secret();
+    check_others(&rt);
+}
+
+fn check_others(rt: &impl Abort) {
     for row in OTHERS.lines() {
-        check(&rt, !is_opened_under(&rt, &secret, row), row);
+        check(rt, !is_opened_under(rt, &SECRET, row), row);
     }
     let row = "1 3 to 3";
-    check(&rt, is_opened_under(&rt, &secret, row), row);
-    let other = MasterSecret::new(&[7; 32]);
-    assert!(rt; !is_opened_under(&rt, &other, row), "another secret");
+    check(rt, is_opened_under(rt, &SECRET, row), row);
+    check(rt, !is_opened_under(rt, &[7; 32], row), "another secret");
 }
 
 /// What party `party` makes of the want, where the referee sealed it for party 3: whether it is the
@@ -146,7 +158,11 @@ fn of_a_want_for_3(key: &Key, party: u8) -> Option<bool> {
 /// A datagram that was sealed for one watcher goes to another: refused, though both have one key.
 #[test]
 fn another_watcher_of_the_key(rt: HostRuntime) {
-    let key = key_of(1, 3);
-    assert!(rt; of_a_want_for_3(&key, 3) == Some(true));
-    assert!(rt; of_a_want_for_3(&key, 4).is_none() && of_a_want_for_3(&key, 0).is_none());
+    check_watchers(&rt, &key_of(1, 3));
+}
+
+fn check_watchers(rt: &impl Abort, key: &Key) {
+    check(rt, of_a_want_for_3(key, 3) == Some(true), "watcher 3");
+    check(rt, of_a_want_for_3(key, 4).is_none(), "watcher 4");
+    check(rt, of_a_want_for_3(key, 0).is_none(), "the referee");
 }

@@ -1,5 +1,5 @@
 //! HMAC-SHA-256 in the test cases of RFC 4231, and at the ends of blocks.
-use crate::helpers::check;
+use crate::checks::{check, check_number};
 use crate::words::{bytes_of, word};
 use bg_seals::{HMAC_BYTES, HmacSha256};
 use std::process::Abort;
@@ -51,10 +51,7 @@ fn check_row(rt: &(impl AllocGlobal + Abort), row: &str) {
     let begins = bytes_of(rt, word(rt, row, 2));
     check(rt, hmac.starts_with(begins), row);
     for first in 0..text.len() {
-        assert!(rt;
-            has_hmac(key, text, first, &hmac),
-            "{row}, in two pieces at {first}"
-        );
+        check_number(rt, row, first, has_hmac(key, text, first, &hmac));
     }
 }
 

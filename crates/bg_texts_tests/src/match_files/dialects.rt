@@ -1,6 +1,6 @@
 //! Spellings of other programs: each is read as its plain form is, or refused with a reason.
 use super::records::{THREE_POINTS, is_same};
-use crate::checks::check_row;
+use crate::checks::{check_printed, check_row};
 use bg_mat::{ImportFault, Imported, import_mat};
 use bg_match::{Record, Rules};
 use std::alloc::{AllocError, Global};
@@ -90,60 +90,35 @@ fn read_text(alloc: Global, text: &str) -> Result<Imported, ImportFault> {
     }
 }
 
-/// Whether a fault has these words.
-fn has_words(alloc: Global, fault: ImportFault, words: &str) -> bool {
-    match format!(in alloc; "{fault}") {
-        Ok(said) => said.as_str() == words,
-        Err(_) => false,
-    }
+/// A text is read as a record with the same entries.
+fn check_entries(rt: &impl Abort, alloc: Global, plain: &str, read: &Record) {
+    let expected = read_text(alloc, plain).expect(rt, plain);
+    check_row(rt, plain, is_same(read, &expected.record));
 }
 
-/// Whether a text is read as a record with the same entries.
-fn has_entries(alloc: Global, plain: &str, read: &Record) -> bool {
-    match read_text(alloc, plain) {
-        Ok(expected) => is_same(read, &expected.record),
-        Err(_) => false,
-    }
-}
-
-/// Whether a spelling is read as its plain form, or refused so.
-fn is_read_as(alloc: Global, spelling: &str, plain: &str) -> bool {
+/// A spelling is read as its plain form, or refused so.
+fn check_spelling(rt: &impl Abort, alloc: Global, spelling: &str, plain: &str) {
     match read_text(alloc, spelling) {
-        Ok(imported) => has_entries(alloc, plain, &imported.record),
-        Err(fault) => has_words(alloc, fault, plain),
-    }
-}
-
-/// Whether a row holds.
-fn holds(alloc: Global, row: &str) -> bool {
-    match row.split_once(" | ") {
-        Some((spelling, plain)) => is_read_as(alloc, spelling, plain),
-        None => false,
+        Ok(imported) => check_entries(rt, alloc, plain, &imported.record),
+        Err(fault) => check_printed(rt, alloc, &fault, plain),
     }
 }
 
 #[test]
 fn spellings_of_other_programs(rt: HostRuntime) {
     for row in SPELLINGS.lines() {
-        check_row(&rt, row, holds(rt.alloc(), row));
+        let (spelling, plain) = row.split_once(" | ").expect(&rt, row);
+        check_spelling(&rt, rt.alloc(), spelling, plain);
     }
 }
 
-/// Returns whether the file of a text ends within a game; nothing where it is refused.
-fn ends_within(alloc: Global, text: &str) -> Option<bool> {
-    match read_text(alloc, text) {
-        Ok(imported) => Some(imported.within_game),
-        Err(_) => None,
-    }
-}
-
-const WHOLE: [&str; 3] = [
+static WHOLE: [&str; 3] = [
     "@ 3 point match",
     "31: 8/5 6/5~Wins 1 point",
     "31: 8/5 6/5~Wins 3 points~~",
 ];
 
-const CUT: [&str; 7] = [
+static CUT: [&str; 7] = [
     "@ 3 point match~Game 1",
     "",
     "31: 8/5 6/5",
@@ -156,7 +131,8 @@ const CUT: [&str; 7] = [
 /// The files of texts end within a game, or none does.
 fn check_ends(rt: &impl Abort, alloc: Global, texts: &[&str], within: bool) {
     for text in texts {
-        check_row(rt, text, ends_within(alloc, text) == Some(within));
+        let imported = read_text(alloc, text).expect(rt, text);
+        check_row(rt, text, imported.within_game == within);
     }
 }
 

@@ -1,9 +1,8 @@
 //! What records are written as.
-use super::records::{THREE_POINTS, check_same, check_transcript, export, read, read_rows};
-use crate::checks::{check_row, check_text, text_of};
-use crate::records::push_lines;
-use bg_mat::{Imported, export_mat};
-use bg_match::{Record, Rules};
+use super::records::{THREE_POINTS, check_transcript, is_same, read, read_back, read_rows};
+use crate::checks::{check_row, check_text};
+use crate::records::record_of;
+use bg_mat::export_mat;
 use std::alloc::Global;
 use std::process::Abort;
 
@@ -38,58 +37,46 @@ const DROP_OF_X: &str = " 3 point match
   1) 61: 13/7 8/7                 Doubles => 2
   2)  Takes                      \n";
 
-/// What is written of the record of a text is that text, and it has so many entries, where that is
-/// told.
-fn check_written(rt: &impl Abort, alloc: Global, text: &str, len: Option<u32>) {
+/// What is written of the record of a text, which has so many entries, is that text.
+fn check_written(rt: &impl Abort, alloc: Global, text: &str, len: u32) {
     let imported = read(rt, alloc, text);
-    check_export(rt, alloc, &imported.record, text);
-    check_row(
-        rt,
-        text,
-        len.is_none() || len == Some(imported.record.len()),
-    );
-}
-
-fn check_export(rt: &impl Abort, alloc: Global, record: &Record, text: &str) {
-    check_text(rt, text, export_mat(alloc, record), text);
+    check_text(rt, text, export_mat(alloc, &imported.record), text);
+    check_row(rt, text, imported.record.len() == len);
 }
 
 /// What is written of a record is what was read of such a text.
 #[test]
 fn games_as_they_are_written(rt: HostRuntime) {
-    check_written(&rt, rt.alloc(), TWO_GAMES, Some(15));
-    check_written(&rt, rt.alloc(), DROP_OF_X, Some(8));
+    check_written(&rt, rt.alloc(), TWO_GAMES, 15);
+    check_written(&rt, rt.alloc(), DROP_OF_X, 8);
 }
 
-/// The first lines of the two games, so many.
-fn first_lines(rt: &impl Abort, count: usize) -> &'static str {
-    let mut length: usize = 0;
-    for line in TWO_GAMES.split('\n').take(count) {
-        length = length.saturating_add(line.len()).saturating_add(1);
-    }
-    TWO_GAMES.get(..length).expect(rt, "so many lines")
-}
+/// The ends of the front parts of the two games, and how many entries stand before them.
+static ENDS: [(&str, u32); 6] = [
+    (" 3 point match\n", 0),
+    ("Doubles => 2\n", 3),
+    ("24/23 6/4\n", 6),
+    ("Wins 2 points\n", 8),
+    ("46: 24/18 13/9\n", 10),
+    ("21:\n", 13),
+];
 
 /// A file that breaks off within a game, behind a win, or with dice that are not moved comes back
 /// as it was.
 #[test]
 fn files_that_break_off(rt: HostRuntime) {
-    for &count in &[1, 5, 6, 8, 12, 13] {
-        check_written(&rt, rt.alloc(), first_lines(&rt, count), None);
+    for &(end, len) in &ENDS {
+        let (_, rest) = TWO_GAMES.split_once(end).expect(&rt, end);
+        let text = TWO_GAMES.strip_suffix(rest).expect(&rt, end);
+        check_written(&rt, rt.alloc(), text, len);
     }
 }
 
 /// What is written of the record of some rows ends so.
 fn check_end(rt: &impl Abort, alloc: Global, rows: &str, end: &str) {
     let imported = read_rows(rt, alloc, THREE_POINTS, rows);
-    check_row(rt, end, ends_so(alloc, &imported.record, end));
-}
-
-fn ends_so(alloc: Global, record: &Record, end: &str) -> bool {
-    match export_mat(alloc, record) {
-        Ok(written) => written.ends_with(end.as_bytes()),
-        Err(_) => false,
-    }
+    let written = export_mat(alloc, &imported.record).expect(rt, "memory");
+    check_row(rt, end, written.ends_with(end.as_bytes()));
 }
 
 /// Of two checkers that come to a hit the first has the mark; the bar is 25, and off is 0.
@@ -101,7 +88,8 @@ fn marks_and_points(rt: HostRuntime) {
     check_end(&rt, rt.alloc(), rows, "  2) 21: 25/23* 25/24*           \n");
 }
 
-const OFFERS: &str = "open 1 3
+const OFFERS: &str = "length 3 rules 2
+open 1 3
 O resign normal
 X reject
 O move 8-5 6-5
@@ -119,28 +107,17 @@ X roll 2 4
 X move 8-4 6-4
 ";
 
-/// What is written of a record is read back.
-fn read_back(rt: &impl Abort, alloc: Global, record: &Record) -> Imported {
-    let written = export(rt, alloc, record);
-    read(rt, alloc, text_of(&written))
-}
-
-fn check_offers(rt: &impl Abort, alloc: Global, record: &mut Record) {
-    push_lines(rt, record, OFFERS);
-    let imported = read_back(rt, alloc, record);
-    check_transcript(rt, alloc, &imported.record, NO_OFFERS);
-}
-
 /// An offer to resign that is not accepted is left out, and the order of the dice of a throw is
 /// kept.
 #[test]
 fn offers_that_are_not_accepted(rt: HostRuntime) {
-    let mut record = Record::new(rt.alloc(), 1, 3, Rules::Two).expect(&rt, "a record");
-    check_offers(&rt, rt.alloc(), &mut record);
+    let record = record_of(&rt, rt.alloc(), OFFERS);
+    let imported = read_back(&rt, rt.alloc(), &record);
+    check_transcript(&rt, rt.alloc(), &imported.record, NO_OFFERS);
 }
 
 /// A record without entries is a length, and records are read back as they were.
-const ROWS: [&str; 6] = [
+static ROWS: [&str; 6] = [
     "",
     "  1) 31: 8/5 6/5\n",
     "  1) 31: 8/5 6/5   42:\n",
@@ -149,15 +126,15 @@ const ROWS: [&str; 6] = [
     "31: 8/5 6/5   66: 24/18(2) 13/7(2)\n                    Wins 2 points\n",
 ];
 
-fn check_read_back(rt: &impl Abort, alloc: Global, row: &str, record: &Record) {
-    let again = read_back(rt, alloc, record);
-    check_same(rt, row, &again.record, record);
+fn check_read_back(rt: &impl Abort, alloc: Global, row: &str) {
+    let imported = read_rows(rt, alloc, THREE_POINTS, row);
+    let again = read_back(rt, alloc, &imported.record);
+    check_row(rt, row, is_same(&again.record, &imported.record));
 }
 
 #[test]
 fn records_read_back(rt: HostRuntime) {
     for row in &ROWS {
-        let imported = read_rows(&rt, rt.alloc(), THREE_POINTS, row);
-        check_read_back(&rt, rt.alloc(), row, &imported.record);
+        check_read_back(&rt, rt.alloc(), row);
     }
 }

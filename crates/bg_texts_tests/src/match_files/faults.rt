@@ -1,6 +1,6 @@
 //! Match files that are refused.
 use super::records::{ONE_POINT, THREE_POINTS, behind};
-use crate::checks::{check_printed, check_row, check_words};
+use crate::checks::{check_printed, check_words};
 use bg_mat::{ImportFault, MatFault, import_mat};
 use bg_match::{EntryFault, Rules};
 use bg_text::MAX_INPUT;
@@ -16,25 +16,15 @@ fn told_of(alloc: Global, text: &[u8]) -> Result<String, AllocError> {
     }
 }
 
-/// A text is refused so.
-fn check_fault(rt: &impl Abort, alloc: Global, row: &str, text: &[u8], wanted: &str) {
-    check_words(rt, row, told_of(alloc, text), wanted);
-}
-
-/// A row behind these lines is refused so.
-fn check_behind(rt: &impl Abort, alloc: Global, head: &str, row: &str, wanted: &str) {
-    let text = behind(rt, alloc, head, row);
-    check_fault(rt, alloc, row, text.as_bytes(), wanted);
-}
-
 /// Rows behind these lines are refused at a line, for a reason.
 fn check_rows(rt: &impl Abort, alloc: Global, head: &str, rows: &[(&str, &str)]) {
     for (row, wanted) in rows {
-        check_behind(rt, alloc, head, row, wanted);
+        let text = behind(rt, alloc, head, row);
+        check_words(rt, row, told_of(alloc, text.as_bytes()), wanted);
     }
 }
 
-const FAULTS_OF_HEADINGS: [(&str, &str); 12] = [
+static FAULTS_OF_HEADINGS: [(&str, &str); 12] = [
     ("", "1 NoLength"),
     ("; a comment\n\n", "3 NoLength"),
     (" Game 1\n", "1 NoLength"),
@@ -52,7 +42,7 @@ const FAULTS_OF_HEADINGS: [(&str, &str); 12] = [
     ),
 ];
 
-const FAULTS_OF_CELLS: [(&str, &str); 16] = [
+static FAULTS_OF_CELLS: [(&str, &str); 16] = [
     ("  1) hello\n", "5 NotALine"),
     ("  1) 71: 8/5 6/5\n", "5 NotALine"),
     ("  1) 31: 8/5 6/5 5/8\n", "5 NotALine"),
@@ -74,7 +64,7 @@ const FAULTS_OF_CELLS: [(&str, &str); 16] = [
     ),
 ];
 
-const FAULTS_OF_GAMES: [(&str, &str); 9] = [
+static FAULTS_OF_GAMES: [(&str, &str); 31] = [
     ("31: 8/5 6/5  Doubles => 4\n", "5 WrongCube"),
     ("31: 8/5 6/5\n Game 2\n", "6 GameGoesOn"),
     (
@@ -102,11 +92,8 @@ const FAULTS_OF_GAMES: [(&str, &str); 9] = [
         "31: 8/5 6/5\n      Wins 3 points\n Game 2\n",
         "7 Entry(MatchOver)",
     ),
-];
-
-/// Of several faults the first one is named: of a line its shape comes first, from left to right,
-/// and then what it tells.
-const FIRST_OF_SEVERAL_FAULTS: [(&str, &str); 16] = [
+    // Of several faults the first one is named: of a line its shape comes first, from left to
+    // right, and then what it tells.
     ("31: 8/5 6/5\n Game 5\n", "6 WrongGame"),
     ("31: 8/5 6/5\n Game 1\n", "6 WrongGame"),
     ("\n Game 2\n", "6 GameGoesOn"),
@@ -138,11 +125,8 @@ const FIRST_OF_SEVERAL_FAULTS: [(&str, &str); 16] = [
         "31: 8/5 6/5\n      Wins 9 points and the match\n",
         "6 WrongPoints",
     ),
-];
-
-/// Dice alone are refused at once where the player may not bring them; that a step can be played
-/// shows behind them.
-const FAULTS_OF_DICE_ALONE: [(&str, &str); 6] = [
+    // Dice alone are refused at once where the player may not bring them; that a step can be played
+    // shows behind them.
     ("33:\nhello\n", "5 Entry(EqualOpening)"),
     ("31: 8/5 6/5\n42:\nhello\n", "6 OutOfTurn"),
     ("31: 8/5 6/5  42:\nhello\n", "6 NotALine"),
@@ -159,24 +143,22 @@ fn faults_of_lines(rt: HostRuntime) {
     check_rows(&rt, rt.alloc(), "", &FAULTS_OF_HEADINGS);
     check_rows(&rt, rt.alloc(), ONE_POINT, &FAULTS_OF_CELLS);
     check_rows(&rt, rt.alloc(), THREE_POINTS, &FAULTS_OF_GAMES);
-    check_rows(&rt, rt.alloc(), THREE_POINTS, &FIRST_OF_SEVERAL_FAULTS);
-    check_rows(&rt, rt.alloc(), THREE_POINTS, &FAULTS_OF_DICE_ALONE);
 }
 
-fn check_longest(rt: &impl Abort, alloc: Global, text: &mut Vec<u8>) {
-    check_fault(rt, alloc, "longest", text.as_slice(), "2 NoLength");
-    check_row(rt, "memory", text.push(b';').is_ok());
-    check_fault(rt, alloc, "too long", text.as_slice(), "TooLong");
+/// A comment of so many bytes is refused so.
+fn check_long(rt: &impl Abort, alloc: Global, count: usize, wanted: &str) {
+    let text = vec![in alloc; b';'; count].expect(rt, "memory");
+    check_words(rt, wanted, told_of(alloc, &text), wanted);
 }
 
 /// The longest input is read, and one byte more is refused.
 #[test]
 fn longest_input(rt: HostRuntime) {
-    let mut text = vec![in rt.alloc(); b';'; MAX_INPUT].expect(&rt, "memory");
-    check_longest(&rt, rt.alloc(), &mut text);
+    check_long(&rt, rt.alloc(), MAX_INPUT, "2 NoLength");
+    check_long(&rt, rt.alloc(), MAX_INPUT + 1, "TooLong");
 }
 
-const WORDS: [(MatFault, &str); 3] = [
+static WORDS: [(MatFault, &str); 3] = [
     (MatFault::Money, "refused at line 3: a money game"),
     (
         MatFault::WrongHits,

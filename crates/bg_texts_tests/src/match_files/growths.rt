@@ -1,6 +1,6 @@
 //! Refused growths.
-use super::records::{check_len, check_lines, check_same};
-use crate::checks::check_no_growth_is_left;
+use super::records::{check_lines, is_same};
+use crate::checks::check_last;
 use bg_mat::{ImportFault, Imported, export_mat, import_mat};
 use bg_match::{Record, Rules};
 use std::alloc::{AllocError, Global};
@@ -17,37 +17,34 @@ fn read(rt: &impl Abort, alloc: Global, text: &[u8]) -> Imported {
     .expect(rt, "a good match file")
 }
 
-fn check_read(rt: &impl Abort, imported: &Imported) {
-    check_len(rt, &imported.record, 4);
-    check_lines(rt, imported, &[4, 4, 5, 5]);
-}
-
 /// Where memory is refused the same call then succeeds. No run of the tests refuses any, but
 /// `tools/checks/refuse_growths` refuses each growth in turn.
 #[test]
 fn refused_growths_of_imports(rt: HostRuntime) {
-    check_read(&rt, &read(&rt, rt.alloc(), MATCH));
-    check_no_growth_is_left(&rt, rt.alloc());
+    let imported = read(&rt, rt.alloc(), MATCH);
+    check_lines(&rt, &imported, &[4, 4, 5, 5]);
+    check_last(&rt, rt.alloc(), "4 entries", imported.record.len() == 4);
 }
 
 /// What is written of a record, also where memory is refused once.
 fn export(rt: &impl Abort, alloc: Global, record: &Record) -> Vec<u8> {
     match export_mat(alloc, record) {
-        Ok(written) => written,
-        Err(AllocError) => export_mat(alloc, record).expect(rt, "memory"),
+        Err(AllocError) => export_mat(alloc, record),
+        written => written,
     }
+    .expect(rt, "memory")
 }
 
-/// What is written of a record is read back.
-fn check_read_back(rt: &impl Abort, alloc: Global, record: &Record) {
+/// Whether what is written of a record is read back.
+fn is_read_back(rt: &impl Abort, alloc: Global, record: &Record) -> bool {
     let again = read(rt, alloc, &export(rt, alloc, record));
-    check_same(rt, "read back", &again.record, record);
+    is_same(&again.record, record)
 }
 
 /// The same, of exports.
 #[test]
 fn refused_growths_of_exports(rt: HostRuntime) {
     let imported = read(&rt, rt.alloc(), MATCH);
-    check_read_back(&rt, rt.alloc(), &imported.record);
-    check_no_growth_is_left(&rt, rt.alloc());
+    let holds = is_read_back(&rt, rt.alloc(), &imported.record);
+    check_last(&rt, rt.alloc(), "read back", holds);
 }

@@ -1,9 +1,12 @@
 //! What match files tell.
-use super::records::{ONE_POINT, THREE_POINTS, check_lines, check_transcript, read, read_rows};
+use super::records::{
+    ONE_POINT, THREE_POINTS, check_lines, check_one_point, check_transcript, read, read_rows,
+};
 use crate::checks::check_row;
-use bg_board::Player;
+use bg_board::{Die, Player};
 use bg_mat::Imported;
 use bg_match::Phase;
+use bg_turns::Dice;
 use std::alloc::Global;
 use std::process::Abort;
 
@@ -19,12 +22,6 @@ fn check_read(
     check_lines(rt, imported, lines);
 }
 
-/// What is read of rows of a match to three points.
-fn check_rows(rt: &impl Abort, alloc: Global, rows: &str, transcript: &str, lines: &[u32]) {
-    let imported = read_rows(rt, alloc, THREE_POINTS, rows);
-    check_read(rt, alloc, &imported, transcript, lines);
-}
-
 const TWO_CELLS: &str = "  1) 31: 8/5 6/5        24: 8/4 6/4
   2) 65: 24/18 18/13
 ";
@@ -38,15 +35,17 @@ X roll 6 5
 X move 24-18 18-13
 ";
 
-fn check_two_cells(rt: &impl Abort, alloc: Global, imported: &Imported) {
-    check_read(rt, alloc, imported, OF_TWO_CELLS, &[5, 5, 5, 5, 6, 6]);
-    check_row(rt, "number of the match", imported.record.id() == 7);
-}
-
 #[test]
 fn rows_of_two_cells(rt: HostRuntime) {
     let imported = read_rows(&rt, rt.alloc(), ONE_POINT, TWO_CELLS);
-    check_two_cells(&rt, rt.alloc(), &imported);
+    check_read(
+        &rt,
+        rt.alloc(),
+        &imported,
+        OF_TWO_CELLS,
+        &[5, 5, 5, 5, 6, 6],
+    );
+    check_row(&rt, "number of the match", imported.record.id() == 7);
 }
 
 const COMMENTS: &str =
@@ -66,7 +65,7 @@ fn comments_and_other_line_ends(rt: HostRuntime) {
     check_read(&rt, rt.alloc(), &imported, OF_COMMENTS, &[8, 8, 10, 10]);
 }
 
-const BY_O: [&str; 2] = [
+static BY_O: [&str; 2] = [
     "  1)                             31: 8/5 6/5\n",
     "  1)                             13: 8/5 6/5\n",
 ];
@@ -75,9 +74,12 @@ const BY_O: [&str; 2] = [
 #[test]
 fn opening_by_o(rt: HostRuntime) {
     for rows in &BY_O {
-        let imported = read_rows(&rt, rt.alloc(), ONE_POINT, rows);
-        let transcript = "length 1\nopen 1 3\nO move 8-5 6-5\n";
-        check_transcript(&rt, rt.alloc(), &imported.record, transcript);
+        check_one_point(
+            &rt,
+            rt.alloc(),
+            rows,
+            "length 1\nopen 1 3\nO move 8-5 6-5\n",
+        );
     }
 }
 
@@ -101,27 +103,24 @@ X double
 O drop
 ";
 
-fn check_doubles(rt: &impl Abort, alloc: Global, imported: &Imported) {
-    let lines = [5, 5, 5, 6, 6, 6, 7, 7];
-    check_read(rt, alloc, imported, OF_DOUBLES, &lines);
-    let score = imported.record.standing().score();
-    check_row(rt, "score", score == (2, 0));
-}
-
 #[test]
 fn doubles_and_answers(rt: HostRuntime) {
     let imported = read_rows(&rt, rt.alloc(), THREE_POINTS, DOUBLES);
-    check_doubles(&rt, rt.alloc(), &imported);
+    check_read(
+        &rt,
+        rt.alloc(),
+        &imported,
+        OF_DOUBLES,
+        &[5, 5, 5, 6, 6, 6, 7, 7],
+    );
+    check_row(&rt, "score", imported.record.standing().score() == (2, 0));
 }
 
-/// In which phase what is read ends.
-fn phase_of(imported: &Imported) -> Phase {
-    imported.record.standing().phase()
-}
-
-/// Whether what is read has so many entries, and ends in this phase.
-fn ends_with(imported: &Imported, len: u32, phase: Phase) -> bool {
-    imported.record.len() == len && phase_of(imported) == phase
+/// What is read of rows has so many entries, and ends in this phase.
+fn check_end(rt: &impl Abort, alloc: Global, head: &str, rows: &str, len: u32, phase: Phase) {
+    let imported = read_rows(rt, alloc, head, rows);
+    let found = (imported.record.len(), imported.record.standing().phase());
+    check_row(rt, rows, found == (len, phase));
 }
 
 /// A game that is dropped needs no row of a win.
@@ -129,8 +128,8 @@ fn ends_with(imported: &Imported, len: u32, phase: Phase) -> bool {
 fn win_that_no_row_tells(rt: HostRuntime) {
     let rows =
         "31: 8/5 6/5   Doubles => 2\nDrops\nGame 2\nA : 0 B : 1\n                21: 13/11 6/5\n";
-    let imported = read_rows(&rt, rt.alloc(), THREE_POINTS, rows);
-    check_row(&rt, rows, ends_with(&imported, 6, Phase::ToAct(Player::X)));
+    let phase = Phase::ToAct(Player::X);
+    check_end(&rt, rt.alloc(), THREE_POINTS, rows, 6, phase);
 }
 
 /// The points of a win that nothing else tells say at which level the other player resigned.
@@ -152,7 +151,8 @@ const WINS: [(&str, &str); 3] = [
 #[test]
 fn resignations_by_points(rt: HostRuntime) {
     for (rows, transcript) in &WINS {
-        check_rows(&rt, rt.alloc(), rows, transcript, &[5, 5, 6, 6]);
+        let imported = read_rows(&rt, rt.alloc(), THREE_POINTS, rows);
+        check_read(&rt, rt.alloc(), &imported, transcript, &[5, 5, 6, 6]);
     }
 }
 
@@ -161,24 +161,24 @@ fn resignations_by_points(rt: HostRuntime) {
 fn resignation_with_dice_to_move(rt: HostRuntime) {
     let rows = "  1) 31: 8/5 6/5             42:\n      Wins 2 points\n";
     let transcript = "length 3\nopen 3 1\nX move 8-5 6-5\nO roll 4 2\nO resign gammon\nX accept\n";
-    check_rows(&rt, rt.alloc(), rows, transcript, &[5, 5, 5, 6, 6]);
-}
-
-/// Whether what is read has three entries, and O is to move dice.
-fn has_dice_left(imported: &Imported) -> bool {
-    imported.record.len() == 3 && matches!(phase_of(imported), Phase::ToMove(Player::O, _))
+    let imported = read_rows(&rt, rt.alloc(), THREE_POINTS, rows);
+    check_read(&rt, rt.alloc(), &imported, transcript, &[5, 5, 5, 6, 6]);
 }
 
 /// The last dice are still to be moved where a step can be played.
 #[test]
 fn dice_at_the_end(rt: HostRuntime) {
     let rows = "  1) 31: 8/5 6/5             42:\n";
-    let imported = read_rows(&rt, rt.alloc(), ONE_POINT, rows);
-    check_row(&rt, rows, has_dice_left(&imported));
+    let dice = Dice {
+        first: Die::Four,
+        second: Die::Two,
+    };
+    let phase = Phase::ToMove(Player::O, dice);
+    check_end(&rt, rt.alloc(), ONE_POINT, rows, 3, phase);
 }
 
 /// Sixteen blanks stand for an empty left column, and fifteen do not.
-const BEHIND_BLANKS: [(&str, Player); 2] = [
+static BEHIND_BLANKS: [(&str, Player); 2] = [
     ("               31: 8/5 6/5\n", Player::O),
     ("                31: 8/5 6/5\n", Player::X),
 ];
@@ -186,7 +186,6 @@ const BEHIND_BLANKS: [(&str, Player); 2] = [
 #[test]
 fn blanks_before_a_lone_cell(rt: HostRuntime) {
     for &(rows, next) in &BEHIND_BLANKS {
-        let imported = read_rows(&rt, rt.alloc(), ONE_POINT, rows);
-        check_row(&rt, rows, phase_of(&imported) == Phase::ToAct(next));
+        check_end(&rt, rt.alloc(), ONE_POINT, rows, 2, Phase::ToAct(next));
     }
 }

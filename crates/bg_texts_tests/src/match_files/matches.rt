@@ -1,6 +1,6 @@
 //! A whole match that another program wrote.
-use super::records::{check_len, check_lines, check_same, export, read};
-use crate::checks::{check_row, text_of};
+use super::records::{check_lines, is_same, read, read_back};
+use crate::checks::check_row;
 use bg_board::Player;
 use bg_mat::Imported;
 use bg_match::Phase;
@@ -37,24 +37,20 @@ const MATCH: &str = " 1 point match
 ";
 
 /// What is written of what was read is read back the same.
-fn check_again(rt: &impl Abort, alloc: Global, imported: &Imported) {
-    let again = read(rt, alloc, text_of(&export(rt, alloc, &imported.record)));
-    check_same(rt, MATCH, &again.record, &imported.record);
-    check_lines(rt, &again, imported.lines.as_slice());
-}
-
-fn check_whole(rt: &impl Abort, imported: &Imported) {
-    check_len(rt, &imported.record, 82);
-    let lines = imported.lines.as_slice();
+fn check_match(rt: &impl Abort, alloc: Global, imported: &Imported) {
+    let (record, lines) = (&imported.record, imported.lines.as_slice());
+    check_row(rt, "82 entries", record.len() == 82);
     check_row(rt, "first line", lines.first() == Some(&5));
     check_row(rt, "last line", lines.last() == Some(&25));
-    let phase = imported.record.standing().phase();
+    let phase = record.standing().phase();
     check_row(rt, "phase", phase == Phase::Over(Player::O));
+    let again = read_back(rt, alloc, record);
+    check_row(rt, "read back", is_same(&again.record, record));
+    check_lines(rt, &again, lines);
 }
 
 #[test]
 fn match_of_another_program(rt: HostRuntime) {
     let imported = read(&rt, rt.alloc(), MATCH);
-    check_whole(&rt, &imported);
-    check_again(&rt, rt.alloc(), &imported);
+    check_match(&rt, rt.alloc(), &imported);
 }

@@ -1,9 +1,7 @@
 //! Movements as other programs write them.
-use super::records::{ONE_POINT, check_transcript, read_rows};
-use std::alloc::Global;
-use std::process::Abort;
+use super::records::check_one_point;
 
-const MERGED: [(&str, &str); 5] = [
+static MERGED: [(&str, &str); 5] = [
     (
         "  1) 64: 24/14\n",
         "length 1\nopen 6 4\nX move 24-20 20-14\n",
@@ -26,17 +24,11 @@ const MERGED: [(&str, &str); 5] = [
     ),
 ];
 
-/// What is read of rows of a match to one point has this transcript.
-fn check_rows(rt: &impl Abort, alloc: Global, rows: &str, transcript: &str) {
-    let imported = read_rows(rt, alloc, ONE_POINT, rows);
-    check_transcript(rt, alloc, &imported.record, transcript);
-}
-
 /// A way of one checker by several dice is cut into steps.
 #[test]
 fn merged_steps(rt: HostRuntime) {
     for (rows, transcript) in &MERGED {
-        check_rows(&rt, rt.alloc(), rows, transcript);
+        check_one_point(&rt, rt.alloc(), rows, transcript);
     }
 }
 
@@ -58,5 +50,5 @@ O move bar-22 bar-22 24-21 24-21
 
 #[test]
 fn counts_hits_and_the_bar(rt: HostRuntime) {
-    check_rows(&rt, rt.alloc(), ROWS, TRANSCRIPT);
+    check_one_point(&rt, rt.alloc(), ROWS, TRANSCRIPT);
 }

@@ -1,5 +1,5 @@
 //! What is read of match files.
-use crate::checks::{check_row, check_told, text_of};
+use crate::checks::{check_told, text_of};
 use crate::records::written;
 use bg_mat::{Imported, export_mat, import_mat};
 use bg_match::{Record, Rules};
@@ -27,9 +27,10 @@ pub(crate) fn read_rows(rt: &impl Abort, alloc: Global, head: &str, rows: &str) 
     read(rt, alloc, behind(rt, alloc, head, rows).as_str())
 }
 
-/// What is written of a record.
-pub(crate) fn export(rt: &impl Abort, alloc: Global, record: &Record) -> Vec<u8> {
-    export_mat(alloc, record).expect(rt, "memory")
+/// What is read again of what is written of a record.
+pub(crate) fn read_back(rt: &impl Abort, alloc: Global, record: &Record) -> Imported {
+    let written = export_mat(alloc, record).expect(rt, "memory");
+    read(rt, alloc, text_of(&written))
 }
 
 /// A record has this transcript.
@@ -38,10 +39,10 @@ pub(crate) fn check_transcript(rt: &impl Abort, alloc: Global, record: &Record, 
     check_told(rt, wanted, text_of(&written), wanted);
 }
 
-/// A record has so many entries.
-pub(crate) fn check_len(rt: &impl Abort, record: &Record, wanted: u32) {
-    let len = record.len();
-    assert!(rt; len == wanted, "{len} entries, not {wanted}");
+/// What is read of rows of a match to one point has this transcript.
+pub(crate) fn check_one_point(rt: &impl Abort, alloc: Global, rows: &str, transcript: &str) {
+    let imported = read_rows(rt, alloc, ONE_POINT, rows);
+    check_transcript(rt, alloc, &imported.record, transcript);
 }
 
 /// Entries stand in these lines.
@@ -58,9 +59,4 @@ pub(crate) fn is_same(read: &Record, wanted: &Record) -> bool {
         }
     }
     read.len() == wanted.len()
-}
-
-/// Two records have the same entries.
-pub(crate) fn check_same(rt: &impl Abort, row: &str, read: &Record, wanted: &Record) {
-    check_row(rt, row, is_same(read, wanted));
 }

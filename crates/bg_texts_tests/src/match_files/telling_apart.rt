@@ -3,37 +3,28 @@ use super::records::{ONE_POINT, THREE_POINTS};
 use crate::checks::check_row;
 use bg_mat::is_match_file;
 
-fn is_told(text: &str) -> bool {
-    is_match_file(text.as_bytes())
-}
-
-const MATCH_FILES: [&str; 6] = [
-    ONE_POINT,
-    THREE_POINTS,
-    "7 point match",
-    " 0 point match\n",
-    "; a comment\r\n\r\n\t  17   point match\r\nGame 1\n",
-    " 9999 point match\nnothing of a game\n",
-];
-
-const OTHERS: [&str; 9] = [
-    "",
-    "\n \t\r\n; 7 point match\n",
-    " Game 1\n 7 point match\n",
-    "bg match 1 length 7 rules 1\n",
-    " 10000 point match\n",
-    " point match\n",
-    " 7 point matches\n",
-    " 7 point match and more\n",
-    " -7 point match\n",
+/// Texts, and whether they are match files.
+static TEXTS: [(&str, bool); 15] = [
+    (ONE_POINT, true),
+    (THREE_POINTS, true),
+    ("7 point match", true),
+    (" 0 point match\n", true),
+    ("; a comment\r\n\r\n\t  17   point match\r\nGame 1\n", true),
+    (" 9999 point match\nnothing of a game\n", true),
+    ("", false),
+    ("\n \t\r\n; 7 point match\n", false),
+    (" Game 1\n 7 point match\n", false),
+    ("bg match 1 length 7 rules 1\n", false),
+    (" 10000 point match\n", false),
+    (" point match\n", false),
+    (" 7 point matches\n", false),
+    (" 7 point match and more\n", false),
+    (" -7 point match\n", false),
 ];
 
 #[test]
 fn files_told_apart(rt: HostRuntime) {
-    for text in &MATCH_FILES {
-        check_row(&rt, text, is_told(text));
-    }
-    for text in &OTHERS {
-        check_row(&rt, text, !is_told(text));
+    for &(text, wanted) in &TEXTS {
+        check_row(&rt, text, is_match_file(text.as_bytes()) == wanted);
     }
 }

@@ -1,19 +1,11 @@
 //! Refused growths.
-use crate::checks::{check_no_growth_is_left, check_row};
+use crate::checks::check_last;
 use crate::records::record_of;
 use bg_match::{Record, Standing};
 use bg_picture::{
     Numbering, PageWords, PictureLabels, labelled_picture_text, page_text, picture_text,
 };
 use std::alloc::{AllocError, Global};
-
-/// The picture of a standing, also where memory is refused once.
-fn picture(alloc: Global, standing: &Standing) -> Result<Vec<u8>, AllocError> {
-    match picture_text(alloc, standing, Numbering::Mover) {
-        Ok(picture) => Ok(picture),
-        Err(_) => picture_text(alloc, standing, Numbering::Mover),
-    }
-}
 
 /// Whether a text is made, and ends so.
 fn ends_so(made: &Result<Vec<u8>, AllocError>, end: &[u8]) -> bool {
@@ -23,8 +15,13 @@ fn ends_so(made: &Result<Vec<u8>, AllocError>, end: &[u8]) -> bool {
     }
 }
 
+/// Whether the picture of a standing is drawn, also where memory is refused once.
 fn is_drawn(alloc: Global, standing: &Standing) -> bool {
-    ends_so(&picture(alloc, standing), b"X 0</text></g></svg>\n")
+    let picture = match picture_text(alloc, standing, Numbering::Mover) {
+        Err(_) => picture_text(alloc, standing, Numbering::Mover),
+        picture => picture,
+    };
+    ends_so(&picture, b"X 0</text></g></svg>\n")
 }
 
 /// Where memory is refused the same call then succeeds. No run of the tests refuses any, but
@@ -32,8 +29,7 @@ fn is_drawn(alloc: Global, standing: &Standing) -> bool {
 #[test]
 fn refused_growths_of_pictures(rt: HostRuntime) {
     let standing = record_of(&rt, rt.alloc(), "length 3\nopen 3 1\n").standing();
-    check_row(&rt, "picture", is_drawn(rt.alloc(), &standing));
-    check_no_growth_is_left(&rt, rt.alloc());
+    check_last(&rt, rt.alloc(), "picture", is_drawn(rt.alloc(), &standing));
 }
 
 const LABELS: PictureLabels<'static> = PictureLabels {
@@ -42,26 +38,28 @@ const LABELS: PictureLabels<'static> = PictureLabels {
     occasion: "",
 };
 
-/// The picture of a standing with words below it, also where memory is refused once.
-fn labelled(alloc: Global, standing: &Standing) -> Result<Vec<u8>, AllocError> {
-    match labelled_picture_text(alloc, standing, Numbering::X, LABELS) {
-        Ok(picture) => Ok(picture),
-        Err(_) => labelled_picture_text(alloc, standing, Numbering::X, LABELS),
-    }
-}
-
+/// Whether the picture of a standing is drawn with words below it, also where memory is refused
+/// once.
 fn is_labelled(alloc: Global, standing: &Standing) -> bool {
+    let picture = match labelled_picture_text(alloc, standing, Numbering::X, LABELS) {
+        Err(_) => labelled_picture_text(alloc, standing, Numbering::X, LABELS),
+        picture => picture,
+    };
     let end =
         b"X 0</text></g><g class='left'><text x='0' y='580'>X: Anna</text><text x='0' y='606'>O: &lt;O&gt;</text></g></svg>\n";
-    ends_so(&labelled(alloc, standing), end)
+    ends_so(&picture, end)
 }
 
 /// The same, of a picture with words below it.
 #[test]
 fn refused_growths_of_labelled_pictures(rt: HostRuntime) {
     let standing = record_of(&rt, rt.alloc(), "length 3\nopen 3 1\n").standing();
-    check_row(&rt, "picture", is_labelled(rt.alloc(), &standing));
-    check_no_growth_is_left(&rt, rt.alloc());
+    check_last(
+        &rt,
+        rt.alloc(),
+        "picture",
+        is_labelled(rt.alloc(), &standing),
+    );
 }
 
 const WORDS: PageWords<'static> = PageWords {
@@ -70,22 +68,18 @@ const WORDS: PageWords<'static> = PageWords {
     o: "",
 };
 
-/// The page of a match, also where memory is refused once.
-fn page(alloc: Global, record: &Record) -> Result<Vec<u8>, AllocError> {
-    match page_text(alloc, record, WORDS, Numbering::Mover, 0) {
-        Ok(page) => Ok(page),
-        Err(_) => page_text(alloc, record, WORDS, Numbering::Mover, 0),
-    }
-}
-
+/// Whether the page of a match is made, also where memory is refused once.
 fn is_page(alloc: Global, record: &Record) -> bool {
-    ends_so(&page(alloc, record), b"</script>\n</body>\n</html>\n")
+    let page = match page_text(alloc, record, WORDS, Numbering::Mover, 0) {
+        Err(_) => page_text(alloc, record, WORDS, Numbering::Mover, 0),
+        page => page,
+    };
+    ends_so(&page, b"</script>\n</body>\n</html>\n")
 }
 
 /// The same, of a page.
 #[test]
 fn refused_growths_of_pages(rt: HostRuntime) {
     let record = record_of(&rt, rt.alloc(), "length 3\nopen 3 1\nX move 8-5 6-5\n");
-    check_row(&rt, "page", is_page(rt.alloc(), &record));
-    check_no_growth_is_left(&rt, rt.alloc());
+    check_last(&rt, rt.alloc(), "page", is_page(rt.alloc(), &record));
 }

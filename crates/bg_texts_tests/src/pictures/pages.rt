@@ -18,29 +18,19 @@ pub(super) fn page_of(
     page_text(alloc, &record, words, numbering, seconds).expect(rt, "memory")
 }
 
-/// What stands behind a part of a text.
-pub(super) fn behind<'a>(rt: &impl Abort, text: &'a str, part: &str) -> &'a str {
-    let (_, rest) = text.split_once(part).expect(rt, part);
-    rest
-}
-
 /// A page has each of these parts, one behind the other; what stands behind the last.
-fn behind_parts<'a>(rt: &impl Abort, page: &'a [u8], parts: &[&str]) -> &'a str {
-    let mut rest = text_of(page);
+pub(super) fn behind_parts<'a>(rt: &impl Abort, page: &'a str, parts: &[&str]) -> &'a str {
+    let mut rest = page;
     for part in parts {
-        rest = behind(rt, rest, part);
+        let (_, behind) = rest.split_once(*part).expect(rt, part);
+        rest = behind;
     }
     rest
 }
 
-/// A page has each of these parts, one behind the other.
-pub(super) fn check_begins_with_parts(rt: &impl Abort, page: &[u8], parts: &[&str]) {
-    let _ = behind_parts(rt, page, parts);
-}
-
 /// A page has each of these parts, one behind the other, and no more behind the last.
 pub(super) fn check_parts(rt: &impl Abort, page: &[u8], parts: &[&str]) {
-    let rest = behind_parts(rt, page, parts);
+    let rest = behind_parts(rt, text_of(page), parts);
     check_told(rt, "behind the last part", rest, "");
 }
 
@@ -48,7 +38,7 @@ pub(super) fn check_parts(rt: &impl Abort, page: &[u8], parts: &[&str]) {
 const MATCH: &str =
     "length 3\nopen 3 1\nX move 8-5 6-5\nO double\nX drop\nopen 2 6\nO move 24-18 13-11\n";
 
-const TWO_GAMES: [&str; 22] = [
+static TWO_GAMES: [&str; 22] = [
     "<!DOCTYPE html>\n<html lang='en'>\n<head>\n<meta charset='utf-8'>\n",
     "<title>Anna &amp; &lt;b&gt;Otto&lt;/b&gt; &quot;&#39;</title>\n<style>\n",
     "</style>\n<script>document.documentElement.className='js'</script>\n</head>\n\
@@ -106,7 +96,7 @@ fn page_of_two_games(rt: HostRuntime) {
     check_parts(&rt, &page, &TWO_GAMES);
 }
 
-const SHOWN_ANEW: [&str; 6] = [
+static SHOWN_ANEW: [&str; 6] = [
     "<noscript><meta http-equiv='refresh' content='5'></noscript>\n<title></title>\n",
     "<body data-numbering='X' data-seconds='5'>\n",
     "</defs></svg>\n<h1><bdi></bdi></h1>\n<main>\n",
@@ -126,7 +116,7 @@ fn page_that_is_shown_anew(rt: HostRuntime) {
         Numbering::X,
         5,
     );
-    check_begins_with_parts(&rt, &page, &SHOWN_ANEW);
+    let _ = behind_parts(&rt, text_of(&page), &SHOWN_ANEW);
 }
 
 /// What no end of a game shows: an offered cube, one that is taken, and the dice behind an offer to
@@ -134,7 +124,7 @@ fn page_that_is_shown_anew(rt: HostRuntime) {
 const OFFERED: &str =
     "length 7\nopen 3 1\nX move 8-5 6-5\nO double\nX take\nO roll 6 5\nO resign gammon\nX reject\n";
 
-const OF_OFFERS: [&str; 5] = [
+static OF_OFFERS: [&str; 5] = [
     " 1 - - 0 0' data-next='X to answer the double'><a href='#p3'>O double</a>",
     " 2 X - 0 0' data-next='O to roll'><a href='#p4'>X take</a>",
     " 2 X 65 0 0' data-next='O to move 6 5'><a href='#p5'>O roll 6 5</a>",
@@ -145,5 +135,5 @@ const OF_OFFERS: [&str; 5] = [
 #[test]
 fn page_of_offers(rt: HostRuntime) {
     let page = page_of(&rt, rt.alloc(), OFFERED, titled(""), Numbering::Mover, 0);
-    check_begins_with_parts(&rt, &page, &OF_OFFERS);
+    let _ = behind_parts(&rt, text_of(&page), &OF_OFFERS);
 }

@@ -9,13 +9,6 @@ use bg_turns::Dice;
 use std::alloc::Global;
 use std::process::Abort;
 
-/// A text has each of these parts.
-fn check_text_parts(rt: &impl Abort, text: &str, parts: &[&str]) {
-    for part in parts {
-        check_row(rt, part, text.contains(*part));
-    }
-}
-
 /// The picture of a standing has each of these parts.
 fn check_parts(
     rt: &impl Abort,
@@ -25,7 +18,10 @@ fn check_parts(
     parts: &[&str],
 ) {
     let picture = picture_text(alloc, standing, numbering).expect(rt, "memory");
-    check_text_parts(rt, text_of(&picture), parts);
+    let text = text_of(&picture);
+    for part in parts {
+        check_row(rt, part, text.contains(*part));
+    }
 }
 
 const BEGIN: &str = "<svg xmlns='http://www.w3.org/2000/svg' viewBox='-8 0 616 560' role='img'>\
@@ -63,7 +59,7 @@ const THREE_ONE: Dice = Dice {
     second: Die::One,
 };
 
-const BY_THE_MOVER: [&str; 6] = [
+static BY_THE_MOVER: [&str; 6] = [
     "<title>O to move 3 1</title>",
     "O: 0 on the bar, 0 off, 2 on 24, 5 on 13, 3 on 8, 5 on 6; points as O counts</desc>",
     "<use href='#numbers-o' x='0' y='0'/>",
@@ -72,7 +68,7 @@ const BY_THE_MOVER: [&str; 6] = [
     "<g class='o'><use href='#d3' x='139' y='280'/><use href='#d1' x='181' y='280'/></g>",
 ];
 
-const BY_X: [&str; 5] = [
+static BY_X: [&str; 5] = [
     "points as X counts</desc>",
     "<use href='#numbers-x' x='0' y='0'/>",
     "<g id='numbers-x'><text x='540' y='516'>1</text>",
@@ -87,7 +83,7 @@ fn numbers_of_the_mover(rt: HostRuntime) {
     check_parts(&rt, rt.alloc(), &standing, Numbering::X, &BY_X);
 }
 
-const A_PASS: [&str; 5] = [
+static A_PASS: [&str; 5] = [
     "<title>X to pass 3 1</title><desc>length 99 rules 2, game 12, Crawford; X 98, O 97; cube 1 in the middle",
     "; X: 15 on the bar, 0 off; O: 0 on the bar, 3 off, 2 on 19",
     "<g class='x'><use href='#c5' x='300' y='305'/><text x='300' y='331'>15</text></g>",
@@ -111,22 +107,22 @@ fn check_phase(rt: &impl Abort, alloc: Global, phase: Phase, cube: Cube, parts: 
     check_parts(rt, alloc, &standing, Numbering::Mover, parts);
 }
 
-const OWNED: [&str; 2] = [
+static OWNED: [&str; 2] = [
     "<use href='#cube' x='20' y='476'/><text x='20' y='482'>64</text>",
     "cube 64 of X",
 ];
 
-const DOUBLED: [&str; 2] = [
+static DOUBLED: [&str; 2] = [
     "<use href='#cube' x='160' y='280'/><text x='160' y='286'>128</text>",
     "O to answer the double",
 ];
 
-const RESIGNED: [&str; 2] = [
+static RESIGNED: [&str; 2] = [
     "<use href='#d1' x='461' y='280'/></g><use href='#tag' x='160' y='280'/>",
     "<text x='160' y='287'>gammon</text>",
 ];
 
-const OFFERED: [&str; 2] = [
+static OFFERED: [&str; 2] = [
     "</g><use href='#tag' x='440' y='280'/><text x='440' y='287'>backgammon</text><g class='left'>",
     "<title>O resigns backgammon</title>",
 ];
@@ -145,7 +141,7 @@ fn cubes_and_offers(rt: HostRuntime) {
     check_phase(&rt, rt.alloc(), offered, Cube::MIDDLE, &OFFERED);
 }
 
-const OVER: [&str; 4] = [
+static OVER: [&str; 4] = [
     "<title>O wins the match</title>",
     "<g class='o'><use href='#c5' x='580' y='65'/><text x='580' y='243'>15</text></g>",
     "<use href='#cube' x='20' y='84'/>",

@@ -1,6 +1,6 @@
 //! The results of games in pages.
 use super::games::{BACKGAMMON, GAMMON, SINGLE_GAME};
-use super::pages::{behind, check_parts, page_of, titled};
+use super::pages::{behind_parts, check_parts, page_of, titled};
 use crate::checks::{check_row, text_of};
 use bg_picture::Numbering;
 use std::alloc::Global;
@@ -21,39 +21,12 @@ fn page(rt: &impl Abort, alloc: Global, transcript: &str) -> Vec<u8> {
     page_of(rt, alloc, transcript, titled(""), Numbering::Mover, 0)
 }
 
-/// What stands behind both parts of an item.
-fn behind_parts<'a>(rt: &impl Abort, page: &'a str, item: &str) -> &'a str {
-    let (start, end) = item.split_once(" .. ").expect(rt, "two parts");
-    behind(rt, behind(rt, page, start), end)
-}
-
-/// What stands behind the start and the result of a game, where that is this.
-fn behind_game<'a>(
-    rt: &impl Abort,
-    alloc: Global,
-    page: &'a str,
-    game: usize,
-    told: &str,
-) -> &'a str {
-    let item = format!(in alloc;
-        "<li id='start{game}' .. <a href='#result{game}'>result<span>: {told}</span></a>"
-    ).expect(rt, "memory");
-    behind_parts(rt, page, item.as_str())
-}
-
-/// A page has these results, those of the games from the first on.
-fn check_page(rt: &impl Abort, alloc: Global, page: &str, results: &[&str]) {
-    let mut rest = page;
-    for (index, result) in results.iter().enumerate() {
-        rest = behind_game(rt, alloc, rest, index + 1, result);
-    }
-    check_row(rt, "one result more", !rest.contains("<li id='result"));
-}
-
-/// The page of a transcript has these results.
+/// The page of a transcript has these results, those of the games from the first on. Each is told
+/// by two parts of the page: where its game starts, and where it ends.
 fn check_results(rt: &impl Abort, alloc: Global, transcript: &str, results: &[&str]) {
     let page = page(rt, alloc, transcript);
-    check_page(rt, alloc, text_of(&page), results);
+    let rest = behind_parts(rt, text_of(&page), results);
+    check_row(rt, "one result more", !rest.contains("<li id='result"));
 }
 
 /// The match of some games, behind its first line.
@@ -61,16 +34,23 @@ fn match_of(rt: &impl Abort, alloc: Global, first: &str, games: &str, last: &str
     format!(in alloc; "{first}\n{games}{last}").expect(rt, "memory")
 }
 
-const OF_A_SINGLE_GAME: [&str; 1] = ["X wins a single game, 1 point; X 1, O 0"];
-
-const OF_A_GAMMON: [&str; 2] = [
-    "X wins a gammon, 2 points; X 2, O 0",
-    "X wins a single game, 1 point; X 3, O 0; X wins the match",
+static OF_A_SINGLE_GAME: [&str; 2] = [
+    "<li id='start1' ",
+    "<a href='#result1'>result<span>: X wins a single game, 1 point; X 1, O 0</span></a>",
 ];
 
-const OF_A_BACKGAMMON: [&str; 2] = [
-    "X wins a backgammon, 3 points; X 3, O 0",
-    "X wins a gammon, 2 points; X 5, O 0; X wins the match",
+static OF_A_GAMMON: [&str; 4] = [
+    "<li id='start1' ",
+    "<a href='#result1'>result<span>: X wins a gammon, 2 points; X 2, O 0</span></a>",
+    "<li id='start2' ",
+    "<a href='#result2'>result<span>: X wins a single game, 1 point; X 3, O 0; X wins the match</span></a>",
+];
+
+static OF_A_BACKGAMMON: [&str; 4] = [
+    "<li id='start1' ",
+    "<a href='#result1'>result<span>: X wins a backgammon, 3 points; X 3, O 0</span></a>",
+    "<li id='start2' ",
+    "<a href='#result2'>result<span>: X wins a gammon, 2 points; X 5, O 0; X wins the match</span></a>",
 ];
 
 /// The match of some games has these results.
@@ -94,12 +74,18 @@ fn results_by_bearing_off(rt: HostRuntime) {
     check_games(&rt, rt.alloc(), backgammon, &OF_A_BACKGAMMON);
 }
 
-const OF_A_DROP: [&str; 1] = ["X wins by a drop of the double, 2 points; X 2, O 0"];
+static OF_A_DROP: [&str; 2] = [
+    "<li id='start1' ",
+    "<a href='#result1'>result<span>: X wins by a drop of the double, 2 points; X 2, O 0</span></a>",
+];
 
-const OF_RESIGNATIONS: [&str; 3] = [
-    "X wins a backgammon by resignation, 3 points; X 3, O 0",
-    "X wins a single game by resignation, 1 point; X 4, O 0",
-    "O wins a gammon by resignation, 4 points; X 4, O 4",
+static OF_RESIGNATIONS: [&str; 6] = [
+    "<li id='start1' ",
+    "<a href='#result1'>result<span>: X wins a backgammon by resignation, 3 points; X 3, O 0</span></a>",
+    "<li id='start2' ",
+    "<a href='#result2'>result<span>: X wins a single game by resignation, 1 point; X 4, O 0</span></a>",
+    "<li id='start3' ",
+    "<a href='#result3'>result<span>: O wins a gammon by resignation, 4 points; X 4, O 4</span></a>",
 ];
 
 #[test]
@@ -108,7 +94,7 @@ fn results_by_drops_and_resignations(rt: HostRuntime) {
     check_results(&rt, rt.alloc(), RESIGNATIONS, &OF_RESIGNATIONS);
 }
 
-const UNFINISHED: [&str; 3] = [
+static UNFINISHED: [&str; 3] = [
     "length 7\n",
     "length 7\nopen 3 1\nX move 8-5 6-5\nO double\n",
     "length 7\nopen 3 1\nX move 8-5 6-5\nO resign gammon\nX reject\n",
@@ -125,7 +111,7 @@ fn no_result_while_a_game_is_played(rt: HostRuntime) {
 const END: &str = "data-at='paaaaaaaaaaaaaaaaaaaaaaaaa\
     aabbabdbcabbacaaabbaaaaaaa 1 - - 2 0' data-next='X wins a gammon'>";
 
-const AFTER_A_GAMMON: [&str; 10] = [
+static AFTER_A_GAMMON: [&str; 10] = [
     "<li id='p37' data-at='",
     "<a href='#p37'>X roll 3 3</a></li>\n<li id='p38' ",
     END,
@@ -139,16 +125,10 @@ const AFTER_A_GAMMON: [&str; 10] = [
     "</script>\n</body>\n</html>\n",
 ];
 
-/// The page of a match of one game.
-fn page_of_game(rt: &impl Abort, alloc: Global, first: &str, game: &str) -> Vec<u8> {
-    let transcript = match_of(rt, alloc, first, game, "");
-    page(rt, alloc, transcript.as_str())
-}
-
-/// It has each of these parts, and no more behind the last.
+/// The page of a match of one game has each of these parts, and no more behind the last.
 fn check_game(rt: &impl Abort, alloc: Global, first: &str, game: &str, parts: &[&str]) {
-    let page = page_of_game(rt, alloc, first, game);
-    check_parts(rt, &page, parts);
+    let transcript = match_of(rt, alloc, first, game, "");
+    check_parts(rt, &page(rt, alloc, transcript.as_str()), parts);
 }
 
 #[test]
@@ -156,7 +136,7 @@ fn end_of_a_game(rt: HostRuntime) {
     check_game(&rt, rt.alloc(), "length 5", GAMMON, &AFTER_A_GAMMON);
 }
 
-const AFTER_THE_MATCH: [&str; 6] = [
+static AFTER_THE_MATCH: [&str; 6] = [
     "<li id='p38' data-at='paaaaaaaaaaaaaaaaaaaaaaaaa\
     kdcaaaaaaaaaaaaaaaaaaaaaaa 1 - - 1 0' data-next='X wins a single game'>",
     "<a href='#p38'>X move 2-off 1-off 1-off</a></li>\n<li id='result1' ",

@@ -20,60 +20,73 @@ fn check_files(rt: &impl Abort, alloc: Global, rows: &[(&[u8], &str)]) {
     }
 }
 
+/// This is said of a file on screens of so many columns.
+fn check_screens(rt: &impl Abort, alloc: Global, bytes: &[u8], rows: &[(Option<usize>, &str)]) {
+    for &(columns, wanted) in rows {
+        check_said(rt, alloc, bytes, columns, wanted);
+    }
+}
+
+/// Whatever the screen, and without one.
+static OF_A_TURN: [(Option<usize>, &str); 3] = [
+    (None, "a/file: ok 2, not over\nFine(2)"),
+    (Some(80), "a/file: ok 2, not over\nFine(2)"),
+    (Some(0), "a/file: ok 2, not over\nFine(2)"),
+];
+
+static OF_NO_ENTRY: [(Option<usize>, &str); 3] = [
+    (None, "a/file: ok 0, not over\nFine(0)"),
+    (Some(80), "a/file: ok 0, not over\nFine(0)"),
+    (Some(0), "a/file: ok 0, not over\nFine(0)"),
+];
+
 #[test]
 fn files_that_are_good(rt: HostRuntime) {
-    let moved = b"length 1\nopen 3 1\nX move 8-5 6-5";
-    let unplayed = b"length 99 rules 2\n";
-    for &columns in &[None, Some(80), Some(0)] {
-        let wanted = "a/file: ok 2, not over\nFine(2)";
-        check_said(&rt, rt.alloc(), moved, columns, wanted);
-        let wanted = "a/file: ok 0, not over\nFine(0)";
-        check_said(&rt, rt.alloc(), unplayed, columns, wanted);
-    }
+    let turn = b"length 1\nopen 3 1\nX move 8-5 6-5";
+    check_screens(&rt, rt.alloc(), turn, &OF_A_TURN);
+    check_screens(&rt, rt.alloc(), b"length 99 rules 2\n", &OF_NO_ENTRY);
 }
 
 /// The winner stands first, with his points before those of the other player. Only a match file is
 /// cut.
-const RESULTS: [(&str, &str); 7] = [
+static RESULTS: [(&[u8], &str); 7] = [
     (
-        "length 1\nopen 3 1\nX resign normal\nO accept\n",
+        b"length 1\nopen 3 1\nX resign normal\nO accept\n",
         "a/file: ok 3, O wins 1-0\nFine(3)",
     ),
     (
-        "length 2\nopen 1 3\nO resign normal\nX accept\nopen 3 1\nX resign gammon\nO accept\n",
+        b"length 2\nopen 1 3\nO resign normal\nX accept\nopen 3 1\nX resign gammon\nO accept\n",
         "a/file: ok 6, O wins 2-1\nFine(6)",
     ),
     (
-        "length 2\nopen 1 3\nO resign backgammon\nX accept\n",
+        b"length 2\nopen 1 3\nO resign backgammon\nX accept\n",
         "a/file: ok 3, X wins 3-0\nFine(3)",
     ),
     (
-        "length 2\nopen 1 3\nO resign normal\nX accept\n",
+        b"length 2\nopen 1 3\nO resign normal\nX accept\n",
         "a/file: ok 3, not over\nFine(3)",
     ),
     (
-        " 2 point match\n Game 1\n A : 0 B : 0\n 1) 31: 8/5 6/5 Doubles\n Drops Wins 1 point\n",
+        b" 2 point match\n Game 1\n A : 0 B : 0\n 1) 31: 8/5 6/5 Doubles\n Drops Wins 1 point\n",
         "a/file: ok 4, not over\nFine(4)",
     ),
     (
-        " 2 point match\n Game 1\n A : 0 B : 0\n 1) 31: 8/5 6/5 Doubles\n Drops Wins 1 point\n Game 2\n",
+        b" 2 point match\n Game 1\n A : 0 B : 0\n 1) 31: 8/5 6/5 Doubles\n Drops Wins 1 point\n Game 2\n",
         "a/file: ok 4, cut within a game\nFine(4)",
     ),
     (
-        " 1 point match\n Game 1\n A : 0 B : 0\n 1) 31: 8/5 6/5\n                 42:\n Wins 1 point\n",
+        b" 1 point match\n Game 1\n A : 0 B : 0\n 1) 31: 8/5 6/5\n                 42:\n Wins 1 point\n",
         "a/file: ok 5, X wins 1-0\nFine(5)",
     ),
 ];
 
 #[test]
 fn files_of_matches_that_end_and_that_go_on(rt: HostRuntime) {
-    for &(text, wanted) in &RESULTS {
-        check_said(&rt, rt.alloc(), text.as_bytes(), None, wanted);
-    }
+    check_files(&rt, rt.alloc(), &RESULTS);
 }
 
 /// The line is named, and shown.
-const REFUSED: [(&[u8], &str); 7] = [
+static REFUSED: [(&[u8], &str); 7] = [
     (
         b"length 1\nopen 3 1\nX move 8-5\n",
         "a/file: refused at line 3: more can be played: X move 8-5\nRefused(3)",
@@ -109,7 +122,7 @@ fn files_that_are_refused(rt: HostRuntime) {
     check_files(&rt, rt.alloc(), &REFUSED);
 }
 
-const NOTHING_SEEN: [(&[u8], &str); 3] = [
+static NOTHING_SEEN: [(&[u8], &str); 3] = [
     (
         b"length 1\n\nopen 3 1\n",
         "a/file: refused at line 2: not a line\nRefused(2)",
@@ -131,7 +144,7 @@ fn refused_lines_of_which_nothing_is_seen(rt: HostRuntime) {
 
 /// A match file of another program is one where its first line that tells something is a length,
 /// and is judged by what it imports to; any other file is judged as a transcript.
-const OTHER_KINDS: [(&[u8], &str); 5] = [
+static OTHER_KINDS: [(&[u8], &str); 5] = [
     (
         b"; [Site \"here\"]\n\n 3 point match\n",
         "a/file: ok 0, not over\nFine(0)",
@@ -159,36 +172,42 @@ fn files_of_other_kinds(rt: HostRuntime) {
     check_files(&rt, rt.alloc(), &OTHER_KINDS);
 }
 
-const CUT: [(usize, &str); 8] = [
+static CUT: [(Option<usize>, &str); 8] = [
     (
-        100,
+        Some(100),
         "a/file: refused at line 2: not a line: open 3 1 and more\nRefused(2)",
     ),
     (
-        56,
+        Some(56),
         "a/file: refused at line 2: not a line: open 3 1 and more\nRefused(2)",
     ),
     (
-        55,
+        Some(55),
         "a/file: refused at line 2: not a line: open 3 1 and ...\nRefused(2)",
     ),
     (
-        43,
+        Some(43),
         "a/file: refused at line 2: not a line: o...\nRefused(2)",
     ),
-    (42, "a/file: refused at line 2: not a line: ...\nRefused(2)"),
-    (41, "a/file: refused at line 2: not a line\nRefused(2)"),
-    (39, "a/file: refused at line 2: not a line\nRefused(2)"),
-    (0, "a/file: refused at line 2: not a line\nRefused(2)"),
+    (
+        Some(42),
+        "a/file: refused at line 2: not a line: ...\nRefused(2)",
+    ),
+    (
+        Some(41),
+        "a/file: refused at line 2: not a line\nRefused(2)",
+    ),
+    (
+        Some(39),
+        "a/file: refused at line 2: not a line\nRefused(2)",
+    ),
+    (Some(0), "a/file: refused at line 2: not a line\nRefused(2)"),
 ];
 
 /// The line is cut where the screen ends, and says so.
 #[test]
 fn lines_are_cut(rt: HostRuntime) {
-    for &(columns, wanted) in &CUT {
-        let bytes = b"length 1\nopen 3 1 and more";
-        check_said(&rt, rt.alloc(), bytes, Some(columns), wanted);
-    }
+    check_screens(&rt, rt.alloc(), b"length 1\nopen 3 1 and more", &CUT);
 }
 
 /// Whether an endless line is cut. The name, the verdict, and 1000 columns with what stands before

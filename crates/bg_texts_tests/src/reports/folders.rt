@@ -1,6 +1,7 @@
 //! What is shown of the saved files of a folder.
 use super::saved_files::{
-    AFTER_THE_MOVE, AFTER_THE_OPENING, OPENING, REFEREE, SEAT, changed, check_shown,
+    AFTER_THE_MOVE, AFTER_THE_OPENING, OF_O, OF_X, OPENING, OTHER_LENGTH, OTHER_NUMBER,
+    OTHER_OPENING, OTHER_RULES, OTHER_TURN, REFEREE, SEAT, check_shown,
 };
 use bg_reports::{SlotBytes, folder_text, party_text};
 use std::alloc::{AllocError, Global};
@@ -14,45 +15,26 @@ pub(super) fn slots(alloc: Global, zero: &[u8], one: &[u8]) -> Result<SlotBytes,
     })
 }
 
-/// A file, and its bytes that are others, by their offsets.
-type File = (&'static [u8], &'static [(usize, u8)]);
-
-const EMPTY: File = (b"", &[]);
-
-const NO_SAVE: File = (b"BGS0", &[]);
-
-const OF_REFEREE: File = (&REFEREE, &[]);
-
-const OF_SEAT: File = (&SEAT, &[]);
-
-/// The referee's save 2 as it would be of X, and of O.
-const OF_X: File = (&REFEREE, &[(4, 1)]);
-
-const OF_O: File = (&REFEREE, &[(4, 2)]);
-
-fn files_of(alloc: Global, zero: File, one: File) -> Result<SlotBytes, AllocError> {
-    Ok(SlotBytes {
-        zero: changed(alloc, zero.0, zero.1)?,
-        one: changed(alloc, one.0, one.1)?,
-    })
-}
+/// A file, as it lies in a folder.
+type File = &'static [u8];
 
 /// Files of the referee, of X and of O, two of each, the lines that are shown of them, and the
 /// board. Where there is no board none of them loads.
-type Row = ([File; 6], &'static str, &'static str);
+type Row = (&'static [File; 6], &'static str, &'static str);
 
 /// What is shown of the files of a row.
 fn shown_of(alloc: Global, files: &[File; 6]) -> Result<(Vec<u8>, bool), AllocError> {
-    let referee = files_of(alloc, files[0], files[1])?;
-    let x = files_of(alloc, files[2], files[3])?;
-    let o = files_of(alloc, files[4], files[5])?;
+    let referee = slots(alloc, files[0], files[1])?;
+    let x = slots(alloc, files[2], files[3])?;
+    let o = slots(alloc, files[4], files[5])?;
     folder_text(alloc, &referee, &x, &o)
 }
 
-fn check_folder(rt: &impl Abort, alloc: Global, row: &Row) {
-    let (files, lines, board) = row;
-    let shown = shown_of(alloc, files);
-    check_shown(rt, alloc, shown, lines, board, !board.is_empty());
+fn check_folders(rt: &impl Abort, alloc: Global, rows: &[Row]) {
+    for (files, lines, board) in rows {
+        let shown = shown_of(alloc, files);
+        check_shown(rt, alloc, shown, lines, board, !board.is_empty());
+    }
 }
 
 const SEAT_BEHIND_THE_REFEREE: &str = "party-0.0: party 0 match 1 length 1 save 2 entries 2
@@ -100,59 +82,51 @@ party 1: no save
 party 2: no save
 ";
 
-const BEHIND_OTHERS: [Row; 4] = [
+static BEHIND_OTHERS: [Row; 4] = [
     (
-        [OF_REFEREE, EMPTY, EMPTY, OF_SEAT, NO_SAVE, EMPTY],
+        &[&REFEREE, b"", b"", &SEAT, b"BGS0", b""],
         SEAT_BEHIND_THE_REFEREE,
         AFTER_THE_MOVE,
     ),
     (
-        [EMPTY, (&OPENING, &[]), OF_X, EMPTY, OF_O, (b"B", &[])],
+        &[b"", &OPENING, &OF_X, b"", &OF_O, b"B"],
         REFEREE_BEHIND_A_SEAT,
         AFTER_THE_MOVE,
     ),
     (
-        [OF_REFEREE, (&OPENING, &[]), EMPTY, OF_SEAT, EMPTY, EMPTY],
+        &[&REFEREE, &OPENING, b"", &SEAT, b"", b""],
         NEWER_FILES_COUNT,
         AFTER_THE_OPENING,
     ),
-    (
-        [(b"B", &[]), EMPTY, EMPTY, EMPTY, NO_SAVE, EMPTY],
-        NOTHING_LOADS,
-        "",
-    ),
+    (&[b"B", b"", b"", b"", b"BGS0", b""], NOTHING_LOADS, ""),
 ];
 
 #[test]
 fn parties_behind_others(rt: HostRuntime) {
-    for row in &BEHIND_OTHERS {
-        check_folder(&rt, rt.alloc(), row);
-    }
+    check_folders(&rt, rt.alloc(), &BEHIND_OTHERS);
 }
 
 /// A party, its two files in a folder with no others, the lines that are shown of them, the board,
 /// and whether one of them loads.
-type OneRow = (u8, [File; 2], &'static str, &'static str, bool);
-
-/// What is shown of the two files of a party.
-fn shown_of_party(
-    alloc: Global,
-    party: u8,
-    files: &[File; 2],
-) -> Result<(Vec<u8>, bool), AllocError> {
-    party_text(alloc, party, &files_of(alloc, files[0], files[1])?)
-}
+type OneRow = (u8, &'static [File; 2], &'static str, &'static str, bool);
 
 fn check_party(rt: &impl Abort, alloc: Global, row: &OneRow) {
     let (party, files, lines, board, loads) = row;
-    let shown = shown_of_party(alloc, *party, files);
-    check_shown(rt, alloc, shown, lines, board, *loads);
+    let files = slots(alloc, files[0], files[1]).expect(rt, "memory");
+    check_shown(
+        rt,
+        alloc,
+        party_text(alloc, *party, &files),
+        lines,
+        board,
+        *loads,
+    );
 }
 
-const ALONE: [OneRow; 4] = [
+static ALONE: [OneRow; 4] = [
     (
         0,
-        [OF_REFEREE, (&OPENING, &[])],
+        &[&REFEREE, &OPENING],
         "party-0.0: party 0 match 1 length 1 save 2 entries 2
 party-0.1: party 0 match 1 length 1 save 3 entries 1
 party 0: 1 entries
@@ -162,7 +136,7 @@ party 0: 1 entries
     ),
     (
         1,
-        [NO_SAVE, OF_SEAT],
+        &[b"BGS0", &SEAT],
         "party-1.0: bad magic
 party-1.1: party 1 match 1 length 1 save 1 entries 1 claim 2
 party 1: 1 entries
@@ -172,7 +146,7 @@ party 1: 1 entries
     ),
     (
         2,
-        [EMPTY, OF_SEAT],
+        &[b"", &SEAT],
         "party-2.0: empty
 party-2.1: party 1 match 1 length 1 save 1 entries 1 claim 2
 party 2: no save
@@ -182,7 +156,7 @@ party 2: no save
     ),
     (
         0,
-        [EMPTY, EMPTY],
+        &[b"", b""],
         "party-0.0: empty
 party-0.1: empty
 party 0: no save
@@ -246,40 +220,19 @@ O to roll
 ";
 
 /// Another turn and another opening, another number and other rules, and another length.
-const DIFFERENT: [Row; 3] = [
+static DIFFERENT: [Row; 3] = [
     (
-        [
-            OF_REFEREE,
-            EMPTY,
-            (&REFEREE, &[(4, 1), (29, 24), (30, 21), (31, 24), (32, 23)]),
-            EMPTY,
-            EMPTY,
-            (&OPENING, &[(4, 2), (25, 4)]),
-        ],
+        &[&REFEREE, b"", &OTHER_TURN, b"", b"", &OTHER_OPENING],
         ENTRIES_THAT_DIFFER,
         AFTER_THE_MOVE,
     ),
     (
-        [
-            OF_REFEREE,
-            EMPTY,
-            (&REFEREE, &[(4, 1), (12, 2)]),
-            EMPTY,
-            (&REFEREE, &[(4, 2), (14, 2)]),
-            EMPTY,
-        ],
+        &[&REFEREE, b"", &OTHER_NUMBER, b"", &OTHER_RULES, b""],
         OTHER_NUMBER_AND_RULES,
         AFTER_THE_MOVE,
     ),
     (
-        [
-            OF_X,
-            EMPTY,
-            (&REFEREE, &[(4, 1), (13, 3)]),
-            EMPTY,
-            OF_O,
-            EMPTY,
-        ],
+        &[&OF_X, b"", &OTHER_LENGTH, b"", &OF_O, b""],
         OTHER_LENGTH_AND_PARTY,
         BOARD_OF_LENGTH_3,
     ),
@@ -287,7 +240,5 @@ const DIFFERENT: [Row; 3] = [
 
 #[test]
 fn saves_that_differ(rt: HostRuntime) {
-    for row in &DIFFERENT {
-        check_folder(&rt, rt.alloc(), row);
-    }
+    check_folders(&rt, rt.alloc(), &DIFFERENT);
 }

@@ -3,7 +3,7 @@
 //! turn.
 use super::folders::slots;
 use super::saved_files::{AFTER_THE_MOVE, AFTER_THE_OPENING, OPENING, REFEREE, SEAT};
-use crate::checks::{check_no_growth_is_left, check_row};
+use crate::checks::check_last;
 use bg_mat::{ImportFault, import_mat};
 use bg_match::Rules;
 use bg_reports::{
@@ -14,20 +14,17 @@ use bg_text::{TranscriptFault, Verdict, read_transcript};
 use std::alloc::{AllocError, Global};
 use std::process::Abort;
 
-/// What is shown of two files, also where memory is refused once.
-fn shown(alloc: Global) -> Result<(Vec<u8>, bool), AllocError> {
-    match show_text(alloc, &SEAT, &REFEREE) {
-        Ok(shown) => Ok(shown),
-        Err(AllocError) => show_text(alloc, &SEAT, &REFEREE),
-    }
-}
-
 const LINES: &str = "file 0: party 1 match 1 length 1 save 1 entries 1 claim 2
 file 1: party 0 match 1 length 1 save 2 entries 2
 ";
 
+/// Whether these lines and the board are shown of two files, also where memory is refused once.
 fn are_shown(alloc: Global) -> bool {
-    match shown(alloc) {
+    let shown = match show_text(alloc, &SEAT, &REFEREE) {
+        Err(AllocError) => show_text(alloc, &SEAT, &REFEREE),
+        shown => shown,
+    };
+    match shown {
         Ok((text, loads)) => {
             loads && text.starts_with(LINES.as_bytes()) && text.ends_with(AFTER_THE_MOVE.as_bytes())
         }
@@ -37,22 +34,13 @@ fn are_shown(alloc: Global) -> bool {
 
 #[test]
 fn refused_growths_of_shown_files(rt: HostRuntime) {
-    check_row(&rt, LINES, are_shown(rt.alloc()));
-    check_row(&rt, "again", are_shown(rt.alloc()));
-    check_no_growth_is_left(&rt, rt.alloc());
+    let holds = are_shown(rt.alloc()) && are_shown(rt.alloc());
+    check_last(&rt, rt.alloc(), LINES, holds);
 }
 
 const MORE_CAN_BE_PLAYED: &[u8] = b"length 1\nopen 3 1\nX move 8-5\n";
 
 const SAID_OF_IT: &[u8] = b"a: refused at line 3: more can be played: X move 8-5\n";
-
-/// What is said of a file that is checked, also where memory is refused once.
-fn checked(alloc: Global) -> Result<(Vec<u8>, Verdict), AllocError> {
-    match check_text(alloc, "a", MORE_CAN_BE_PLAYED, Some(80)) {
-        Ok(checked) => Ok(checked),
-        Err(AllocError) => check_text(alloc, "a", MORE_CAN_BE_PLAYED, Some(80)),
-    }
-}
 
 /// Whether there is memory for what is said, which is this.
 fn is_said(said: &Result<(Vec<u8>, Verdict), AllocError>, wanted: &[u8], verdict: Verdict) -> bool {
@@ -62,15 +50,19 @@ fn is_said(said: &Result<(Vec<u8>, Verdict), AllocError>, wanted: &[u8], verdict
     }
 }
 
+/// Whether this is said of a file that is checked, also where memory is refused once.
 fn is_checked(alloc: Global) -> bool {
-    is_said(&checked(alloc), SAID_OF_IT, Verdict::Refused(3))
+    let said = match check_text(alloc, "a", MORE_CAN_BE_PLAYED, Some(80)) {
+        Err(AllocError) => check_text(alloc, "a", MORE_CAN_BE_PLAYED, Some(80)),
+        said => said,
+    };
+    is_said(&said, SAID_OF_IT, Verdict::Refused(3))
 }
 
 #[test]
 fn refused_growths_of_checks(rt: HostRuntime) {
-    check_row(&rt, "said", is_checked(rt.alloc()));
-    check_row(&rt, "again", is_checked(rt.alloc()));
-    check_no_growth_is_left(&rt, rt.alloc());
+    let holds = is_checked(rt.alloc()) && is_checked(rt.alloc());
+    check_last(&rt, rt.alloc(), "said, and again", holds);
 }
 
 const GAME_2: &[u8] = b" 1 point match\n Game 2\n";
@@ -83,28 +75,24 @@ fn import_fault(alloc: Global) -> Option<ImportFault> {
     }
 }
 
-/// What is said of that, also where memory is refused once.
-fn said_of_import(alloc: Global, fault: ImportFault) -> Result<(Vec<u8>, Verdict), AllocError> {
-    match said_of_import_fault(alloc, "a", GAME_2, fault, Some(80)) {
-        Ok(said) => Ok(said),
-        Err(AllocError) => said_of_import_fault(alloc, "a", GAME_2, fault, Some(80)),
-    }
-}
-
-/// Whether a match file whose first game is game 2 is refused so.
+/// Whether a match file whose first game is game 2 is refused so, also where memory is refused
+/// once.
 fn is_import_refused(alloc: Global) -> bool {
-    let said = b"a: refused at line 2: not the next game:  Game 2\n";
-    match import_fault(alloc) {
-        Some(fault) => is_said(&said_of_import(alloc, fault), said, Verdict::Refused(2)),
-        None => false,
-    }
+    let Some(fault) = import_fault(alloc) else {
+        return false;
+    };
+    let said = match said_of_import_fault(alloc, "a", GAME_2, fault, Some(80)) {
+        Err(AllocError) => said_of_import_fault(alloc, "a", GAME_2, fault, Some(80)),
+        said => said,
+    };
+    let wanted = b"a: refused at line 2: not the next game:  Game 2\n";
+    is_said(&said, wanted, Verdict::Refused(2))
 }
 
 #[test]
 fn refused_growths_of_refusals(rt: HostRuntime) {
-    check_row(&rt, "said", is_import_refused(rt.alloc()));
-    check_row(&rt, "again", is_import_refused(rt.alloc()));
-    check_no_growth_is_left(&rt, rt.alloc());
+    let holds = is_import_refused(rt.alloc()) && is_import_refused(rt.alloc());
+    check_last(&rt, rt.alloc(), "said, and again", holds);
 }
 
 /// Why a transcript is refused, also where memory is refused once.
@@ -115,34 +103,24 @@ fn transcript_fault(alloc: Global) -> Option<TranscriptFault> {
     }
 }
 
-/// What is said of that, also where memory is refused once.
-fn said_of_transcript(
-    alloc: Global,
-    fault: TranscriptFault,
-) -> Result<(Vec<u8>, Verdict), AllocError> {
-    match said_of_transcript_fault(alloc, "a", MORE_CAN_BE_PLAYED, fault, Some(80)) {
-        Ok(said) => Ok(said),
+/// Whether a transcript is refused so, also where memory is refused once.
+fn is_transcript_refused(alloc: Global) -> bool {
+    let Some(fault) = transcript_fault(alloc) else {
+        return false;
+    };
+    let said = match said_of_transcript_fault(alloc, "a", MORE_CAN_BE_PLAYED, fault, Some(80)) {
         Err(AllocError) => {
             said_of_transcript_fault(alloc, "a", MORE_CAN_BE_PLAYED, fault, Some(80))
         }
-    }
-}
-
-fn is_transcript_refused(alloc: Global) -> bool {
-    match transcript_fault(alloc) {
-        Some(fault) => {
-            let said = said_of_transcript(alloc, fault);
-            is_said(&said, SAID_OF_IT, Verdict::Refused(3))
-        }
-        None => false,
-    }
+        said => said,
+    };
+    is_said(&said, SAID_OF_IT, Verdict::Refused(3))
 }
 
 #[test]
 fn refused_growths_of_refused_transcripts(rt: HostRuntime) {
-    check_row(&rt, "said", is_transcript_refused(rt.alloc()));
-    check_row(&rt, "again", is_transcript_refused(rt.alloc()));
-    check_no_growth_is_left(&rt, rt.alloc());
+    let holds = is_transcript_refused(rt.alloc()) && is_transcript_refused(rt.alloc());
+    check_last(&rt, rt.alloc(), "said, and again", holds);
 }
 
 /// The files of a party, also where memory is refused once.
@@ -161,8 +139,8 @@ fn folder(
     o: &SlotBytes,
 ) -> Result<(Vec<u8>, bool), AllocError> {
     match folder_text(alloc, referee, x, o) {
-        Ok(shown) => Ok(shown),
         Err(AllocError) => folder_text(alloc, referee, x, o),
+        shown => shown,
     }
 }
 
@@ -174,54 +152,47 @@ fn is_opened(shown: &Result<(Vec<u8>, bool), AllocError>) -> bool {
     }
 }
 
-fn is_folder_shown(alloc: Global, referee: &SlotBytes, x: &SlotBytes, o: &SlotBytes) -> bool {
-    is_opened(&folder(alloc, referee, x, o)) && is_opened(&folder(alloc, referee, x, o))
-}
-
-fn are_folders_shown(rt: &impl Abort, alloc: Global, referee: &SlotBytes) -> bool {
+/// Whether the board is shown of a folder, and again.
+fn is_folder_shown(rt: &impl Abort, alloc: Global) -> bool {
+    let referee = slots_at_last(rt, alloc, &REFEREE, &OPENING);
     let x = slots_at_last(rt, alloc, b"", &SEAT);
     let o = slots_at_last(rt, alloc, b"", b"");
-    is_folder_shown(alloc, referee, &x, &o)
+    is_opened(&folder(alloc, &referee, &x, &o)) && is_opened(&folder(alloc, &referee, &x, &o))
 }
 
 #[test]
 fn refused_growths_of_folders(rt: HostRuntime) {
-    let referee = slots_at_last(&rt, rt.alloc(), &REFEREE, &OPENING);
-    let are_shown = are_folders_shown(&rt, rt.alloc(), &referee);
-    check_row(&rt, "shown, and again", are_shown);
-    check_no_growth_is_left(&rt, rt.alloc());
+    let holds = is_folder_shown(&rt, rt.alloc());
+    check_last(&rt, rt.alloc(), "shown, and again", holds);
 }
 
 /// What is shown of the referee's files, also where memory is refused once.
 fn party(alloc: Global, referee: &SlotBytes) -> Result<(Vec<u8>, bool), AllocError> {
     match party_text(alloc, 0, referee) {
-        Ok(shown) => Ok(shown),
         Err(AllocError) => party_text(alloc, 0, referee),
+        shown => shown,
     }
 }
 
-fn is_party_shown(alloc: Global, referee: &SlotBytes) -> bool {
-    is_opened(&party(alloc, referee)) && is_opened(&party(alloc, referee))
+/// Whether the board is shown of the referee's files, and again.
+fn is_party_shown(rt: &impl Abort, alloc: Global) -> bool {
+    let referee = slots_at_last(rt, alloc, &REFEREE, &OPENING);
+    is_opened(&party(alloc, &referee)) && is_opened(&party(alloc, &referee))
 }
 
 #[test]
 fn refused_growths_of_a_party(rt: HostRuntime) {
-    let referee = slots_at_last(&rt, rt.alloc(), &REFEREE, &OPENING);
-    let is_shown = is_party_shown(rt.alloc(), &referee);
-    check_row(&rt, "shown, and again", is_shown);
-    check_no_growth_is_left(&rt, rt.alloc());
+    let holds = is_party_shown(&rt, rt.alloc());
+    check_last(&rt, rt.alloc(), "shown, and again", holds);
 }
 
-/// What two files restore, also where memory is refused once.
-fn restored(alloc: Global) -> Result<Option<Vec<u8>>, AllocError> {
-    match restored_transcript(alloc, &REFEREE, &OPENING) {
-        Ok(transcript) => Ok(transcript),
-        Err(AllocError) => restored_transcript(alloc, &REFEREE, &OPENING),
-    }
-}
-
+/// Whether two files restore this transcript, also where memory is refused once.
 fn is_restored(alloc: Global) -> bool {
-    match restored(alloc) {
+    let restored = match restored_transcript(alloc, &REFEREE, &OPENING) {
+        Err(AllocError) => restored_transcript(alloc, &REFEREE, &OPENING),
+        restored => restored,
+    };
+    match restored {
         Ok(Some(transcript)) => transcript.as_slice() == b"length 1\nopen 3 1\n".as_slice(),
         _ => false,
     }
@@ -229,7 +200,6 @@ fn is_restored(alloc: Global) -> bool {
 
 #[test]
 fn refused_growths_of_restored_transcripts(rt: HostRuntime) {
-    check_row(&rt, "restored", is_restored(rt.alloc()));
-    check_row(&rt, "again", is_restored(rt.alloc()));
-    check_no_growth_is_left(&rt, rt.alloc());
+    let holds = is_restored(rt.alloc()) && is_restored(rt.alloc());
+    check_last(&rt, rt.alloc(), "restored, and again", holds);
 }

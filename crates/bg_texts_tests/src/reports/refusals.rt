@@ -46,7 +46,7 @@ fn a_match_file_is_refused_by_its_rules(rt: HostRuntime) {
     check_refused(&rt, rt.alloc(), Rules::Two, text, wanted);
 }
 
-const REFUSED: [(&str, &str); 3] = [
+static REFUSED: [(&str, &str); 3] = [
     (
         "",
         "the file: refused at line 1: no length of the match\nRefused(1)",

@@ -13,7 +13,7 @@ struct Told {
     json: &'static str,
 }
 
-const ROWS: [Told; 5] = [
+static ROWS: [Told; 5] = [
     Told {
         name: "a/file",
         bytes: "length 7\n",
@@ -50,7 +50,7 @@ const ROWS: [Told; 5] = [
 fn check_form(rt: &impl Abort, alloc: Global, row: &Told, form: RowForm, wanted: &str) {
     let row_told = check_row(alloc, form, row.name, row.bytes.as_bytes());
     let told = told(alloc, row_told).expect(rt, "memory");
-    let start = told.as_str().get(..wanted.len()).unwrap_or(told.as_str());
+    let start = told.get(..wanted.len()).unwrap_or(told.as_str());
     check_told(rt, row.name, start, wanted);
 }
 

@@ -1,6 +1,6 @@
 //! Saved files of a match of length 1, the boards of what they restore, and the comparison of what
 //! is shown of them.
-use crate::checks::{check_words, text_of};
+use crate::checks::{check_row, check_told, text_of};
 use std::alloc::{AllocError, Global};
 use std::process::Abort;
 
@@ -28,6 +28,76 @@ pub(super) const SEAT: [u8; 32] = [
     1, 1, 3, 1,
 ];
 
+/// The referee's save 2, and a byte behind it.
+pub(super) const LONGER: [u8; 34] = [
+    0x42, 0x47, 0x53, 0x32, 0, 0, 0, 0, 0, 0, 0, 0, 1, 1, 1, 0, 0, 0, 2, 0, 0, 0, 0, 2, 1, 3, 1, 6,
+    2, 8, 5, 6, 5, 0,
+];
+
+/// The referee's save 2 by the second rules.
+pub(super) const BY_SECOND_RULES: [u8; 33] = [
+    0x42, 0x47, 0x53, 0x32, 0, 0, 0, 0, 0, 0, 0, 0, 1, 1, 2, 0, 0, 0, 2, 0, 0, 0, 0, 2, 1, 3, 1, 6,
+    2, 8, 5, 6, 5,
+];
+
+/// The opening alone, as save 2.
+pub(super) const EARLIER_OPENING: [u8; 27] = [
+    0x42, 0x47, 0x53, 0x32, 0, 0, 0, 0, 0, 0, 0, 0, 1, 1, 1, 0, 0, 0, 2, 0, 0, 0, 0, 1, 1, 3, 1,
+];
+
+/// The referee's save 2 as it would be of X.
+pub(super) const OF_X: [u8; 33] = [
+    0x42, 0x47, 0x53, 0x32, 1, 0, 0, 0, 0, 0, 0, 0, 1, 1, 1, 0, 0, 0, 2, 0, 0, 0, 0, 2, 1, 3, 1, 6,
+    2, 8, 5, 6, 5,
+];
+
+/// The same of O.
+pub(super) const OF_O: [u8; 33] = [
+    0x42, 0x47, 0x53, 0x32, 2, 0, 0, 0, 0, 0, 0, 0, 1, 1, 1, 0, 0, 0, 2, 0, 0, 0, 0, 2, 1, 3, 1, 6,
+    2, 8, 5, 6, 5,
+];
+
+/// The same of X, with another turn.
+pub(super) const OTHER_TURN: [u8; 33] = [
+    0x42, 0x47, 0x53, 0x32, 1, 0, 0, 0, 0, 0, 0, 0, 1, 1, 1, 0, 0, 0, 2, 0, 0, 0, 0, 2, 1, 3, 1, 6,
+    2, 24, 21, 24, 23,
+];
+
+/// Save 3 of O, with another opening.
+pub(super) const OTHER_OPENING: [u8; 27] = [
+    0x42, 0x47, 0x53, 0x32, 2, 0, 0, 0, 0, 0, 0, 0, 1, 1, 1, 0, 0, 0, 3, 0, 0, 0, 0, 1, 1, 4, 1,
+];
+
+/// Save 2 of X, of match 2.
+pub(super) const OTHER_NUMBER: [u8; 33] = [
+    0x42, 0x47, 0x53, 0x32, 1, 0, 0, 0, 0, 0, 0, 0, 2, 1, 1, 0, 0, 0, 2, 0, 0, 0, 0, 2, 1, 3, 1, 6,
+    2, 8, 5, 6, 5,
+];
+
+/// Save 2 of O, by the second rules.
+pub(super) const OTHER_RULES: [u8; 33] = [
+    0x42, 0x47, 0x53, 0x32, 2, 0, 0, 0, 0, 0, 0, 0, 1, 1, 2, 0, 0, 0, 2, 0, 0, 0, 0, 2, 1, 3, 1, 6,
+    2, 8, 5, 6, 5,
+];
+
+/// Save 2 of X, of length 3.
+pub(super) const OTHER_LENGTH: [u8; 33] = [
+    0x42, 0x47, 0x53, 0x32, 1, 0, 0, 0, 0, 0, 0, 0, 1, 3, 1, 0, 0, 0, 2, 0, 0, 0, 0, 2, 1, 3, 1, 6,
+    2, 8, 5, 6, 5,
+];
+
+/// The seat's save with an opening that may not be.
+pub(super) const ILLEGAL_ENTRY: [u8; 32] = [
+    0x42, 0x47, 0x53, 0x31, 1, 0, 0, 0, 0, 0, 0, 0, 1, 1, 0, 0, 0, 1, 1, 0, 2, 6, 2, 8, 5, 6, 5, 0,
+    1, 1, 3, 3,
+];
+
+/// The seat's save with a length that may not be.
+pub(super) const BAD_FIELD: [u8; 32] = [
+    0x42, 0x47, 0x53, 0x31, 1, 0, 0, 0, 0, 0, 0, 0, 1, 0, 0, 0, 0, 1, 1, 0, 2, 6, 2, 8, 5, 6, 5, 0,
+    1, 1, 3, 1,
+];
+
 pub(super) const AFTER_THE_MOVE: &str = "length 1 game 1 score 0-0 cube 1 middle crawford
   13  14  15  16  17  18  19  20  21  22  23  24
   X5   .   .   .  O3   .  O5   .   .   .   .  X2
@@ -46,50 +116,6 @@ bar X 0 O 0 off X 0 O 0
 X to move 3 1
 ";
 
-/// Whether bytes are changed at some offsets, which they have.
-fn are_changed(bytes: &mut [u8], others: &[(usize, u8)]) -> bool {
-    for &(offset, byte) in others {
-        match bytes.get_mut(offset) {
-            Some(place) => *place = byte,
-            None => return false,
-        }
-    }
-    true
-}
-
-/// A saved file with other bytes at some offsets. It is empty where it has no such offset.
-pub(super) fn changed(
-    alloc: Global,
-    bytes: &[u8],
-    others: &[(usize, u8)],
-) -> Result<Vec<u8>, AllocError> {
-    let mut bytes = Vec::from_slice(alloc, bytes)?;
-    if !are_changed(&mut bytes, others) {
-        bytes.clear();
-    }
-    Ok(bytes)
-}
-
-/// The same.
-pub(super) fn with_bytes(
-    rt: &impl Abort,
-    alloc: Global,
-    bytes: &[u8],
-    others: &[(usize, u8)],
-) -> Vec<u8> {
-    changed(alloc, bytes, others).expect(rt, "memory")
-}
-
-/// What is shown, and whether a file loads, in words.
-fn words_of(
-    alloc: Global,
-    shown: Result<(Vec<u8>, bool), AllocError>,
-) -> Result<String, AllocError> {
-    let (text, loads) = shown?;
-    let text = text_of(&text);
-    format!(in alloc; "{text}{loads}")
-}
-
 /// What is shown has these lines and the board, and a file loads or none.
 pub(super) fn check_shown(
     rt: &impl Abort,
@@ -99,6 +125,9 @@ pub(super) fn check_shown(
     board: &str,
     loads: bool,
 ) {
-    let wanted = format!(in alloc; "{lines}{board}{loads}").expect(rt, "memory");
-    check_words(rt, lines, words_of(alloc, shown), wanted.as_str());
+    let shown = shown.expect(rt, "memory");
+    let text = text_of(&shown.0);
+    let wanted = format!(in alloc; "{lines}{board}").expect(rt, "memory");
+    check_told(rt, lines, text, wanted.as_str());
+    check_row(rt, lines, shown.1 == loads);
 }

@@ -19,27 +19,19 @@ fn said(
     told(alloc, said)
 }
 
-/// What is said of a file that is checked, and the verdict.
-fn checked(alloc: Global, bytes: &[u8], columns: Option<usize>) -> Result<String, AllocError> {
-    told(alloc, check_text(alloc, "a", bytes, columns))
-}
-
-/// Whether the same is said of the fault as of the transcript where that is checked, with this
-/// verdict.
-fn is_same(
+/// The same is said of the fault as of the transcript where that is checked, with this verdict.
+fn check_same(
+    rt: &impl Abort,
     alloc: Global,
     bytes: &[u8],
     fault: TranscriptFault,
     columns: Option<usize>,
     verdict: &str,
-) -> bool {
-    match (
-        said(alloc, bytes, fault, columns),
-        checked(alloc, bytes, columns),
-    ) {
-        (Ok(said), Ok(checked)) => said.as_str() == checked.as_str() && said.ends_with(verdict),
-        _ => false,
-    }
+) {
+    let said = said(alloc, bytes, fault, columns).expect(rt, "memory");
+    let checked = told(alloc, check_text(alloc, "a", bytes, columns));
+    check_words(rt, verdict, checked, said.as_str());
+    check_row(rt, verdict, said.ends_with(verdict));
 }
 
 /// Screens of some widths, and none.
@@ -52,8 +44,7 @@ fn check_as_checked(rt: &impl Abort, alloc: Global, bytes: &[u8], wanted: &str) 
     check_words(rt, wanted, said(alloc, bytes, fault, None), wanted);
     let (_, verdict) = wanted.rsplit_once('\n').expect(rt, wanted);
     for columns in &COLUMNS {
-        let is_same = is_same(alloc, bytes, fault, *columns, verdict);
-        check_row(rt, wanted, is_same);
+        check_same(rt, alloc, bytes, fault, *columns, verdict);
     }
 }
 
@@ -63,7 +54,7 @@ fn check_rows(rt: &impl Abort, alloc: Global, rows: &[(&str, &str)]) {
     }
 }
 
-const FIRST_LINES: [(&str, &str); 4] = [
+static FIRST_LINES: [(&str, &str); 4] = [
     ("", "a: refused at line 1: not a length line\nRefused(1)"),
     (
         "\nlength 1\n",
@@ -84,7 +75,7 @@ fn transcripts_whose_first_line_is_refused(rt: HostRuntime) {
     check_rows(&rt, rt.alloc(), &FIRST_LINES);
 }
 
-const ENTRIES: [(&str, &str); 5] = [
+static ENTRIES: [(&str, &str); 5] = [
     (
         "length 1\nopen 7 1\n",
         "a: refused at line 2: bad number: open 7 1\nRefused(2)",
@@ -113,7 +104,7 @@ fn transcripts_whose_entry_is_refused(rt: HostRuntime) {
 }
 
 /// The last line lacks its line feed, or its end.
-const LAST_LINES: [(&str, &str); 2] = [
+static LAST_LINES: [(&str, &str); 2] = [
     (
         "length 1\nopen 3 1\nX move 8-5",
         "a: refused at line 3: more can be played: X move 8-5\nRefused(3)",
@@ -137,14 +128,11 @@ fn transcripts_that_are_too_long(rt: HostRuntime) {
     check_as_checked(&rt, rt.alloc(), &bytes, wanted);
 }
 
-fn has_no_verdict(alloc: Global) -> bool {
-    said(alloc, b"length 1\n", TranscriptFault::Memory, None).is_err()
-}
-
 /// Want of memory has no verdict.
 #[test]
 fn want_of_memory_for_a_transcript(rt: HostRuntime) {
-    check_row(&rt, "no verdict", has_no_verdict(rt.alloc()));
+    let said = said(rt.alloc(), b"length 1\n", TranscriptFault::Memory, None);
+    check_row(&rt, "no verdict", said.is_err());
 }
 
 /// The line and the reason are the fault's, and are not looked for in the bytes.

@@ -1,6 +1,6 @@
 //! The board as it is drawn on screens of each width.
 use super::views::check_view;
-use crate::checks::check_row;
+use crate::checks::check_number;
 use bg_board::Player;
 use bg_table::Drawing;
 
@@ -47,11 +47,19 @@ X to roll
 ";
 
 /// The columns of a screen, a player, and what he sees there.
-const VIEWS: [(usize, Player, &str); 4] = [
+static VIEWS: [(usize, Player, &str); 4] = [
     (80, Player::X, SIX_IN_STACKS),
     (400, Player::X, SIX_IN_STACKS),
     (49, Player::O, SIX_AS_POINTS),
     (20, Player::O, SIX_AS_POINTS),
+];
+
+/// The columns of a screen, and how the board is drawn there.
+static DRAWINGS: [(usize, Drawing); 4] = [
+    (49, Drawing::Points),
+    (50, Drawing::Rows),
+    (79, Drawing::Rows),
+    (80, Drawing::Stacks),
 ];
 
 #[test]
@@ -66,8 +74,8 @@ fn boards_of_screens(rt: HostRuntime) {
             wanted,
         );
     }
-    check_row(&rt, "49", Drawing::fitting(49) == Drawing::Points);
-    check_row(&rt, "50", Drawing::fitting(50) == Drawing::Rows);
-    check_row(&rt, "79", Drawing::fitting(79) == Drawing::Rows);
-    check_row(&rt, "80", Drawing::fitting(80) == Drawing::Stacks);
+    for &(columns, drawing) in &DRAWINGS {
+        let fits = Drawing::fitting(columns) == drawing;
+        check_number(&rt, "columns", columns, fits);
+    }
 }

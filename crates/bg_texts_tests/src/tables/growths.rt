@@ -1,5 +1,5 @@
 //! Refused growths.
-use crate::checks::{check_no_growth_is_left, check_row};
+use crate::checks::check_last;
 use crate::records::record_of;
 use bg_board::{Board, Die, Player};
 use bg_match::{Record, Standing};
@@ -7,34 +7,31 @@ use bg_table::{Drawing, legal_turns_text, prompt_text, seat_view_text, turn_refu
 use bg_turns::{Dice, Turn, TurnFault};
 use std::alloc::{AllocError, Global};
 
-/// What O sees, also where memory is refused once.
-fn view(alloc: Global, record: &Record) -> Result<Vec<u8>, AllocError> {
-    match seat_view_text(alloc, record, Player::O, Drawing::Rows) {
-        Ok(view) => Ok(view),
-        Err(_) => seat_view_text(alloc, record, Player::O, Drawing::Rows),
+/// Whether a text is made, and begins and ends so.
+fn is_made(made: &Result<Vec<u8>, AllocError>, front: &[u8], end: &[u8]) -> bool {
+    match made {
+        Ok(text) => text.starts_with(front) && text.ends_with(end),
+        Err(_) => false,
     }
 }
 
-/// What X may do, also where memory is refused once.
-fn prompt(alloc: Global, standing: &Standing) -> Result<Vec<u8>, AllocError> {
-    match prompt_text(alloc, standing, Player::X) {
-        Ok(prompt) => Ok(prompt),
-        Err(_) => prompt_text(alloc, standing, Player::X),
-    }
-}
-
+/// Whether O sees this, also where memory is refused once.
 fn is_seen(alloc: Global, record: &Record) -> bool {
-    match view(alloc, record) {
-        Ok(view) => view.ends_with(b"last: X move 8-5 6-5 (as X counts)\nO to roll\n"),
-        Err(_) => false,
-    }
+    let view = match seat_view_text(alloc, record, Player::O, Drawing::Rows) {
+        Err(_) => seat_view_text(alloc, record, Player::O, Drawing::Rows),
+        view => view,
+    };
+    let end = b"last: X move 8-5 6-5 (as X counts)\nO to roll\n";
+    is_made(&view, b"length 3, game 1\nscore: O (you) 0 of 3", end)
 }
 
-fn is_prompted(alloc: Global, record: &Record) -> bool {
-    match prompt(alloc, &record.standing()) {
-        Ok(prompt) => prompt.as_slice() == b"it is O's turn\n".as_slice(),
-        Err(_) => false,
-    }
+/// Whether X may do this, also where memory is refused once.
+fn is_prompted(alloc: Global, standing: &Standing) -> bool {
+    let prompt = match prompt_text(alloc, standing, Player::X) {
+        Err(_) => prompt_text(alloc, standing, Player::X),
+        prompt => prompt,
+    };
+    is_made(&prompt, b"it is O's turn\n", b"it is O's turn\n")
 }
 
 /// Where memory is refused the same call then succeeds. No run of the tests refuses any, but
@@ -42,9 +39,8 @@ fn is_prompted(alloc: Global, record: &Record) -> bool {
 #[test]
 fn refused_growths_of_views(rt: HostRuntime) {
     let record = record_of(&rt, rt.alloc(), "length 3\nopen 3 1\nX move 8-5 6-5\n");
-    let is_told = is_seen(rt.alloc(), &record) && is_prompted(rt.alloc(), &record);
-    check_row(&rt, "view and prompt", is_told);
-    check_no_growth_is_left(&rt, rt.alloc());
+    let is_told = is_seen(rt.alloc(), &record) && is_prompted(rt.alloc(), &record.standing());
+    check_last(&rt, rt.alloc(), "view and prompt", is_told);
 }
 
 const SIX_FIVE: Dice = Dice {
@@ -52,39 +48,26 @@ const SIX_FIVE: Dice = Dice {
     second: Die::Five,
 };
 
-/// The turns of X, also where memory is refused once.
-fn list(alloc: Global, board: &Board) -> Result<Vec<u8>, AllocError> {
-    match legal_turns_text(alloc, board, Player::X, SIX_FIVE, 80) {
-        Ok(list) => Ok(list),
-        Err(_) => legal_turns_text(alloc, board, Player::X, SIX_FIVE, 80),
-    }
-}
-
-/// Why X can't play this, also where memory is refused once.
-fn refusal(alloc: Global, board: &Board, turn: &Turn) -> Result<Vec<u8>, AllocError> {
-    let fault = TurnFault::MoreCanBePlayed;
-    match turn_refusal_text(alloc, board, Player::X, SIX_FIVE, turn, fault) {
-        Ok(refusal) => Ok(refusal),
-        Err(_) => turn_refusal_text(alloc, board, Player::X, SIX_FIVE, turn, fault),
-    }
-}
-
-/// Whether a text is made, and begins so.
-fn begins(made: &Result<Vec<u8>, AllocError>, front: &[u8]) -> bool {
-    match made {
-        Ok(text) => text.starts_with(front),
-        Err(_) => false,
-    }
-}
-
+/// Whether the turns of X are listed, also where memory is refused once.
 fn are_listed(alloc: Global, board: &Board) -> bool {
-    begins(&list(alloc, board), b"7 turns:\n 24-18 18-13  24-18 13-8")
+    let list = match legal_turns_text(alloc, board, Player::X, SIX_FIVE, 80) {
+        Err(_) => legal_turns_text(alloc, board, Player::X, SIX_FIVE, 80),
+        list => list,
+    };
+    is_made(&list, b"7 turns:\n 24-18 18-13  24-18 13-8", b"\n")
 }
 
-fn is_refused(alloc: Global, board: &Board) -> bool {
-    begins(
-        &refusal(alloc, board, &Turn::new()),
+/// Whether X is told why he can't play this, also where memory is refused once.
+fn is_refused(alloc: Global, board: &Board, turn: &Turn) -> bool {
+    let fault = TurnFault::MoreCanBePlayed;
+    let refusal = match turn_refusal_text(alloc, board, Player::X, SIX_FIVE, turn, fault) {
+        Err(_) => turn_refusal_text(alloc, board, Player::X, SIX_FIVE, turn, fault),
+        refusal => refusal,
+    };
+    is_made(
+        &refusal,
         b"you must play both dice: 24-18 18-13 can be",
+        b"\n",
     )
 }
 
@@ -94,7 +77,6 @@ fn refused_growths_of_turns(rt: HostRuntime) {
     let board = record_of(&rt, rt.alloc(), "length 3\nopen 6 5\n")
         .standing()
         .board();
-    check_row(&rt, "list", are_listed(rt.alloc(), &board));
-    check_row(&rt, "refusal", is_refused(rt.alloc(), &board));
-    check_no_growth_is_left(&rt, rt.alloc());
+    let is_told = are_listed(rt.alloc(), &board) && is_refused(rt.alloc(), &board, &Turn::new());
+    check_last(&rt, rt.alloc(), "list and refusal", is_told);
 }

@@ -35,7 +35,7 @@ const TO_ROLL: &str =
 const NO_CUBE: &str = "your turn, X: roll, resign normal, resign gammon, resign backgammon\n";
 
 /// A transcript, and what is said to X and to O at its end.
-const PROMPTS: [[&str; 3]; 9] = [
+static PROMPTS: [[&str; 3]; 9] = [
     [
         "length 3\n",
         "it is the referee's turn\n",
@@ -107,7 +107,7 @@ fn with_cube(rt: &impl Abort, value: u8) -> Standing {
 }
 
 /// The cube of X, and whether he may double with it.
-const CUBES: [(u8, &str, &str); 3] = [
+static CUBES: [(u8, &str, &str); 3] = [
     (2, "the cube at 2", TO_ROLL),
     (64, "the cube at 64", TO_ROLL),
     (128, "the cube at 128", NO_CUBE),
@@ -116,8 +116,14 @@ const CUBES: [(u8, &str, &str); 3] = [
 #[test]
 fn doubles_below_the_cap(rt: HostRuntime) {
     for &(value, row, wanted) in &CUBES {
-        let standing = with_cube(&rt, value);
-        check_prompt(&rt, rt.alloc(), row, &standing, Player::X, wanted);
+        check_prompt(
+            &rt,
+            rt.alloc(),
+            row,
+            &with_cube(&rt, value),
+            Player::X,
+            wanted,
+        );
     }
 }
 

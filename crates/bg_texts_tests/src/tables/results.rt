@@ -30,7 +30,7 @@ fn check_results(rt: &impl Abort, alloc: Global, row: &[&str; 4]) {
     check_result(rt, alloc, &standings, Player::O, to_o);
 }
 
-const RESULTS: [[&str; 4]; 8] = [
+static RESULTS: [[&str; 4]; 8] = [
     [
         "length 5\nopen 6 1\n",
         "length 5\nopen 6 1\nX move 13-7 8-7\n",

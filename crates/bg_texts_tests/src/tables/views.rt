@@ -213,28 +213,35 @@ O to move 1 3
 /// by the second the turn is passed.
 const SHUT_OUT: &str = "open 2 1\nX move 13-11 6-5\nO roll 4 3\nO move 24-20 13-10\nX roll 6 6\n";
 
-/// What follows, and the last lines that O then sees, by the first rules.
-const SHUT_OUT_OF_O: [(&str, &str); 4] = [
-    ("", "last: X roll 6 6\nX to move 6 6\n"),
-    (
+/// The first line, what follows, and the last lines that O then sees.
+static SHUT_OUT_OF_O: [[&str; 3]; 7] = [
+    ["length 3", "", "last: X roll 6 6\nX to move 6 6\n"],
+    [
+        "length 3",
         "X move\n",
         "last: X rolled 6 6 and could not move\nO to roll\n",
-    ),
-    (
+    ],
+    [
+        "length 3",
         "X resign normal\nO reject\nX move\nO roll 4 2\n",
         "last: X rolled 6 6 and could not move\nO to move 4 2\n",
-    ),
-    ("X move\nO double\nX take\n", "last: X take\nO to roll\n"),
-];
-
-/// The same, by the second rules.
-const PASSED_OF_O: [(&str, &str); 3] = [
-    ("", "last: X roll 6 6\nX to pass 6 6\n"),
-    (
+    ],
+    [
+        "length 3",
+        "X move\nO double\nX take\n",
+        "last: X take\nO to roll\n",
+    ],
+    ["length 3 rules 2", "", "last: X roll 6 6\nX to pass 6 6\n"],
+    [
+        "length 3 rules 2",
         "pass\n",
         "last: X rolled 6 6 and could not move\nO to roll\n",
-    ),
-    ("pass\nO double\nX take\n", "last: X take\nO to roll\n"),
+    ],
+    [
+        "length 3 rules 2",
+        "pass\nO double\nX take\n",
+        "last: X take\nO to roll\n",
+    ],
 ];
 
 /// A player sees this at the end of a transcript.
@@ -252,7 +259,7 @@ pub(crate) fn check_view(
 }
 
 /// A transcript, a player, and all that he sees at its end.
-const VIEWS: [(&str, Player, &str); 13] = [
+static VIEWS: [(&str, Player, &str); 13] = [
     (OPENED, Player::O, OPENED_OF_O),
     (CRAWFORD, Player::O, CRAWFORD_OF_O),
     (TAKEN, Player::X, TAKEN_OF_X),
@@ -275,20 +282,18 @@ fn words_of_views(rt: HostRuntime) {
     }
 }
 
-/// O sees these lines last, where these ones follow behind the turn in which X is shut out.
-fn check_end(rt: &impl Abort, alloc: Global, length: &str, more: &str, wanted: &str) {
+/// O sees the lines of a row last, where others follow behind the turn in which X is shut out.
+fn check_end(rt: &impl Abort, alloc: Global, row: &[&str; 3]) {
+    let [length, more, wanted] = *row;
     let transcript = format!(in alloc; "{length}\n{SHUT_OUT}{more}").expect(rt, "memory");
     let record = record_of(rt, alloc, transcript.as_str());
     let view = seat_view_text(alloc, &record, Player::O, Drawing::Rows).expect(rt, "memory");
-    check_row(rt, more, view.ends_with(wanted.as_bytes()));
+    check_row(rt, transcript.as_str(), view.ends_with(wanted.as_bytes()));
 }
 
 #[test]
 fn last_lines_of_a_player_who_could_not_move(rt: HostRuntime) {
-    for &(more, wanted) in &SHUT_OUT_OF_O {
-        check_end(&rt, rt.alloc(), "length 3", more, wanted);
-    }
-    for &(more, wanted) in &PASSED_OF_O {
-        check_end(&rt, rt.alloc(), "length 3 rules 2", more, wanted);
+    for row in &SHUT_OUT_OF_O {
+        check_end(&rt, rt.alloc(), row);
     }
 }

@@ -2,7 +2,6 @@
 use crate::checks::{check_words, parted};
 use bg_text::parse_action;
 use std::alloc::{AllocError, Global};
-use std::process::Abort;
 
 /// What a line is read as, or is refused for.
 fn told_of(alloc: Global, line: &str) -> Result<String, AllocError> {
@@ -10,19 +9,9 @@ fn told_of(alloc: Global, line: &str) -> Result<String, AllocError> {
     format!(in alloc; "{read:?}")
 }
 
-/// A row's line is read as the action, or refused for the fault, that stand behind the arrow.
-fn check_action(rt: &impl Abort, alloc: Global, row: &str) {
-    let (line, wanted) = parted(rt, row);
-    check_words(rt, row, told_of(alloc, line), wanted);
-}
-
-fn check_actions(rt: &impl Abort, alloc: Global, rows: &str) {
-    for row in rows.lines() {
-        check_action(rt, alloc, row);
-    }
-}
-
-const LINES_OF_ACTIONS: &str = "\
+/// Lines of actions and of none. Each is read as the action, or refused for the fault, that stand
+/// behind the arrow.
+const LINES: &str = "\
 roll -> Ok(Roll)
 double -> Ok(Double)
 take -> Ok(Take)
@@ -34,9 +23,6 @@ resign gammon -> Ok(Resign(Gammon))
 resign backgammon -> Ok(Resign(Backgammon))
 accept -> Ok(Accept)
 reject -> Ok(Reject)
-";
-
-const LINES_OF_NO_ACTION: &str = "\
 open 3 1 -> Err(NotALine)
 pass -> Err(NotALine)
 roll 3 1 -> Err(NotALine)
@@ -47,6 +33,8 @@ move 6-5 6-5 6-5 6-5 6-5 -> Err(TooManySteps)
 
 #[test]
 fn lines_read_as_actions(rt: HostRuntime) {
-    check_actions(&rt, rt.alloc(), LINES_OF_ACTIONS);
-    check_actions(&rt, rt.alloc(), LINES_OF_NO_ACTION);
+    for row in LINES.lines() {
+        let (line, wanted) = parted(&rt, row);
+        check_words(&rt, row, told_of(rt.alloc(), line), wanted);
+    }
 }

@@ -1,11 +1,10 @@
 //! The boards of standings.
 use super::pictures::check_board;
 use super::records::record;
-use crate::checks::{check_text, check_told};
+use crate::checks::{check_told, text_of};
 use bg_board::{Board, Player};
 use bg_match::{Cube, Level, Phase, Rules, Standing};
 use bg_text::{letter, level_word, put_phase};
-use std::alloc::{AllocError, Global};
 use std::process::Abort;
 
 const OF_A_RECORD: &str = "length 1 game 1 score 0-0 cube 1 middle crawford
@@ -76,28 +75,35 @@ X to roll
 
 #[test]
 fn checkers_on_the_bar_and_off(rt: HostRuntime) {
-    let on_a_point = standing_of(&rt, &ON_A_POINT);
-    check_board(&rt, rt.alloc(), &on_a_point, BOARD_OF_A_POINT);
-    let on_the_bar = standing_of(&rt, &ON_THE_BAR);
-    check_board(&rt, rt.alloc(), &on_the_bar, BOARD_OF_THE_BAR);
+    check_board(
+        &rt,
+        rt.alloc(),
+        &standing_of(&rt, &ON_A_POINT),
+        BOARD_OF_A_POINT,
+    );
+    check_board(
+        &rt,
+        rt.alloc(),
+        &standing_of(&rt, &ON_THE_BAR),
+        BOARD_OF_THE_BAR,
+    );
 }
 
-/// What is next behind other words.
-fn next_text(alloc: Global, standing: &Standing) -> Result<Vec<u8>, AllocError> {
-    let mut text = Vec::from_slice(alloc, b"next: ")?;
-    put_phase(&mut text, standing)?;
-    Ok(text)
-}
+static LEVELS: [(Level, &str); 3] = [
+    (Level::Normal, "normal"),
+    (Level::Gammon, "gammon"),
+    (Level::Backgammon, "backgammon"),
+];
 
 #[test]
 fn what_is_next_stands_behind_other_words(rt: HostRuntime) {
     let standing = record(&rt, rt.alloc()).standing();
-    let text = next_text(rt.alloc(), &standing);
-    check_text(&rt, "phase", text, "next: O to roll");
+    let mut text = Vec::from_slice(rt.alloc(), b"next: ").expect(&rt, "memory");
+    put_phase(&mut text, &standing).expect(&rt, "memory");
+    check_told(&rt, "phase", text_of(&text), "next: O to roll");
     check_told(&rt, "X", letter(Player::X), "X");
     check_told(&rt, "O", letter(Player::O), "O");
-    check_told(&rt, "normal", level_word(Level::Normal), "normal");
-    check_told(&rt, "gammon", level_word(Level::Gammon), "gammon");
-    let greatest = level_word(Level::Backgammon);
-    check_told(&rt, "backgammon", greatest, "backgammon");
+    for &(level, word) in &LEVELS {
+        check_told(&rt, word, level_word(level), word);
+    }
 }

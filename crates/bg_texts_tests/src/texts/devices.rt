@@ -4,7 +4,7 @@ use super::inputs::followed_by;
 use super::records::{MATCH, TEXT_OF_MATCH};
 use crate::checks::{check_number, check_row};
 use bg_streams::{EngineFault, Reading, Writing};
-use bg_text::{Judgement, MAX_INPUT, Verdict, judge, judge_text};
+use bg_text::{MAX_INPUT, Verdict, judge, judge_text};
 use std::alloc::Global;
 use std::io::{Read, Write};
 use std::process::Abort;
@@ -47,18 +47,31 @@ fn is_whole(
         && reader.reads <= 41_943_041
 }
 
-#[test]
-fn read_and_written_in_parts(rt: HostRuntime) {
-    let text = TEXT_OF_MATCH.as_bytes();
-    let input = MATCH.as_bytes();
-    for &parts in &[(1, 1), (1, 1000), (7, 3), (1000, 1000)] {
-        let holds = is_whole(rt.alloc(), input, parts, Verdict::Fine(2), text);
-        check_number(&rt, "reads of", parts.0, holds);
+/// An input is read whole and judged so, by each of these parts.
+fn check_parts(
+    rt: &impl Abort,
+    alloc: Global,
+    input: &[u8],
+    parts: &[(usize, usize)],
+    verdict: Verdict,
+    text: &[u8],
+) {
+    for &part in parts {
+        let holds = is_whole(alloc, input, part, verdict, text);
+        check_number(rt, "reads of", part.0, holds);
     }
 }
 
+static PARTS: [(usize, usize); 4] = [(1, 1), (1, 1000), (7, 3), (1000, 1000)];
+
+#[test]
+fn read_and_written_in_parts(rt: HostRuntime) {
+    let (input, text) = (MATCH.as_bytes(), TEXT_OF_MATCH.as_bytes());
+    check_parts(&rt, rt.alloc(), input, &PARTS, Verdict::Fine(2), text);
+}
+
 /// Inputs, to be read in parts.
-const INPUTS: [&str; 7] = [
+static INPUTS: [&str; 7] = [
     MATCH,
     "length 1\nopen 3 1\nX move 8-5 6-5",
     "length 3 rules 2\nopen 1 3\nX roll 1 2\nO move 8-5 6-5\nrubbish",
@@ -68,7 +81,9 @@ const INPUTS: [&str; 7] = [
     "",
 ];
 
-fn check_each_size(rt: &impl Abort, alloc: Global, input: &str, whole: &Judgement) {
+/// Whatever the parts are in which an input comes, it is judged as it is where it comes at once.
+fn check_each_size(rt: &impl Abort, alloc: Global, input: &str) {
+    let whole = judge_text(alloc, input.as_bytes()).expect(rt, "memory");
     for step in 1..=input.len() {
         let (bytes, parts) = (input.as_bytes(), (step, 1000));
         let holds = is_whole(alloc, bytes, parts, whole.verdict, &whole.text);
@@ -76,12 +91,10 @@ fn check_each_size(rt: &impl Abort, alloc: Global, input: &str, whole: &Judgemen
     }
 }
 
-/// Whatever the parts are in which an input comes, it is judged as it is where it comes at once.
 #[test]
 fn read_in_parts_of_each_size(rt: HostRuntime) {
     for input in &INPUTS {
-        let whole = judge_text(rt.alloc(), input.as_bytes()).expect(&rt, "memory");
-        check_each_size(&rt, rt.alloc(), input, &whole);
+        check_each_size(&rt, rt.alloc(), input);
     }
 }
 
@@ -135,36 +148,28 @@ fn readers_that_never_end(rt: HostRuntime) {
     }
 }
 
-/// An input, of which a reader gives at most one or another number of bytes in a read, is read
-/// whole and judged so.
-fn check_steps(
+/// So many bytes are read whole and judged so, by parts of one size and of another.
+fn check_long(
     rt: &impl Abort,
     alloc: Global,
-    input: &[u8],
-    steps: &[usize; 2],
+    count: usize,
+    steps: (usize, usize),
     verdict: Verdict,
     text: &[u8],
 ) {
-    for &step in steps {
-        let holds = is_whole(alloc, input, (step, 1000), verdict, text);
-        check_number(rt, "reads of", step, holds);
-    }
-}
-
-fn check_longest(rt: &impl Abort, alloc: Global) {
-    let longest = followed_by(rt, alloc, "", b'X', MAX_INPUT);
-    let text = b"refused at line 1: not a length line\n";
-    let refused = Verdict::Refused(1);
-    check_steps(rt, alloc, &longest, &[64, 4096], refused, text);
+    let input = followed_by(rt, alloc, "", b'X', count);
+    let parts = [(steps.0, 1000), (steps.1, 1000)];
+    check_parts(rt, alloc, &input, &parts, verdict, text);
 }
 
 #[test]
 fn longest_input_is_read(rt: HostRuntime) {
-    check_longest(&rt, rt.alloc());
-    let longer = followed_by(&rt, rt.alloc(), "", b'X', MAX_INPUT + 1);
+    let text = b"refused at line 1: not a length line\n";
+    let refused = Verdict::Refused(1);
+    check_long(&rt, rt.alloc(), MAX_INPUT, (64, 4096), refused, text);
     let text = b"refused: input too long\n";
     let long = Verdict::TooLong;
-    check_steps(&rt, rt.alloc(), &longer, &[1000, 4096], long, text);
+    check_long(&rt, rt.alloc(), MAX_INPUT + 1, (1000, 4096), long, text);
 }
 
 /// Whether a writer with this room, which is less than the text, or which fails as it is flushed,

@@ -1,25 +1,22 @@
 //! Refused growths.
 use super::devices::verdict_on;
-use super::records::{MATCH, TEXT_OF_MATCH, check_is_match, record};
-use crate::checks::{check_no_growth_is_left, check_row};
+use super::records::{MATCH, MATCH_7, TEXT_OF_MATCH, is_match, record};
+use crate::checks::check_last;
 use crate::records::{read, written};
-use bg_match::{Record, Standing};
+use bg_match::Standing;
 use bg_streams::EngineFault;
-use bg_text::{Judgement, Verdict, board_text, judge_text, put_phase};
+use bg_text::{Verdict, board_text, judge_text, put_phase};
 use std::alloc::{AllocError, Global};
 use std::process::Abort;
 
-/// The board of a standing, also where memory is refused once.
-fn board_of(alloc: Global, standing: &Standing) -> Result<Vec<u8>, AllocError> {
-    match board_text(alloc, standing) {
-        Ok(board) => Ok(board),
-        Err(_) => board_text(alloc, standing),
-    }
-}
-
+/// Whether the board of a standing is drawn, also where memory is refused once.
 fn is_drawn(alloc: Global, standing: &Standing) -> bool {
     let expected = TEXT_OF_MATCH.as_bytes().strip_suffix(b"ok 2\n");
-    match board_of(alloc, standing) {
+    let board = match board_text(alloc, standing) {
+        Err(_) => board_text(alloc, standing),
+        board => board,
+    };
+    match board {
         Ok(board) => Some(board.as_slice()) == expected,
         Err(_) => false,
     }
@@ -30,8 +27,7 @@ fn is_drawn(alloc: Global, standing: &Standing) -> bool {
 #[test]
 fn refused_growths_of_boards(rt: HostRuntime) {
     let standing = record(&rt, rt.alloc()).standing();
-    check_row(&rt, "board", is_drawn(rt.alloc(), &standing));
-    check_no_growth_is_left(&rt, rt.alloc());
+    check_last(&rt, rt.alloc(), "board", is_drawn(rt.alloc(), &standing));
 }
 
 /// Whether the words for what is next are put, also where memory is refused once.
@@ -50,40 +46,32 @@ fn is_told(text: &mut Vec<u8>, standing: &Standing) -> bool {
 fn refused_growths_of_phases(rt: HostRuntime) {
     let standing = record(&rt, rt.alloc()).standing();
     let is_told = is_told(&mut Vec::new(rt.alloc()), &standing);
-    check_row(&rt, "phase", is_told);
-    check_no_growth_is_left(&rt, rt.alloc());
-}
-
-fn is_written(rt: &impl Abort, alloc: Global, record: &Record) -> bool {
-    written(rt, alloc, record).as_slice() == MATCH.as_bytes()
+    check_last(&rt, rt.alloc(), "phase", is_told);
 }
 
 /// The same, of a transcript.
 #[test]
 fn refused_growths_of_transcripts(rt: HostRuntime) {
     let record = record(&rt, rt.alloc());
-    check_row(&rt, "transcript", is_written(&rt, rt.alloc(), &record));
-    check_no_growth_is_left(&rt, rt.alloc());
+    let is_written = written(&rt, rt.alloc(), &record).as_slice() == MATCH.as_bytes();
+    check_last(&rt, rt.alloc(), "transcript", is_written);
 }
 
 /// The same, of a record that is read.
 #[test]
 fn refused_growths_of_records_that_are_read(rt: HostRuntime) {
     let record = read(&rt, rt.alloc(), 7, MATCH.as_bytes());
-    check_is_match(&rt, rt.alloc(), &record);
-    check_no_growth_is_left(&rt, rt.alloc());
+    let is_match = is_match(&rt, rt.alloc(), &record);
+    check_last(&rt, rt.alloc(), MATCH_7, is_match);
 }
 
-/// The judgement of MATCH, also where memory is refused once.
-fn judged(alloc: Global) -> Result<Judgement, AllocError> {
-    match judge_text(alloc, MATCH.as_bytes()) {
-        Ok(judged) => Ok(judged),
-        Err(_) => judge_text(alloc, MATCH.as_bytes()),
-    }
-}
-
+/// Whether MATCH is judged, also where memory is refused once.
 fn is_judged(alloc: Global) -> bool {
-    match judged(alloc) {
+    let judged = match judge_text(alloc, MATCH.as_bytes()) {
+        Err(_) => judge_text(alloc, MATCH.as_bytes()),
+        judged => judged,
+    };
+    match judged {
         Ok(judged) => {
             judged.verdict == Verdict::Fine(2) && judged.text.as_slice() == TEXT_OF_MATCH.as_bytes()
         }
@@ -94,16 +82,16 @@ fn is_judged(alloc: Global) -> bool {
 /// The same, of a judgement.
 #[test]
 fn refused_growths_of_judgements(rt: HostRuntime) {
-    check_row(&rt, "judgement", is_judged(rt.alloc()));
-    check_no_growth_is_left(&rt, rt.alloc());
+    check_last(&rt, rt.alloc(), "judgement", is_judged(rt.alloc()));
 }
 
 /// Room for a text, also where memory is refused once.
 fn room(rt: &impl Abort, alloc: Global) -> Vec<u8> {
     match Vec::with_capacity(alloc, 1000) {
-        Ok(room) => room,
-        Err(_) => Vec::with_capacity(alloc, 1000).expect(rt, "memory"),
+        Err(AllocError) => Vec::with_capacity(alloc, 1000),
+        room => room,
     }
+    .expect(rt, "memory")
 }
 
 /// The verdict on MATCH, also where memory is refused once: then nothing is written.
@@ -126,6 +114,5 @@ fn is_judged_between_devices(alloc: Global, written: &mut Vec<u8>) -> bool {
 fn refused_growths_between_devices(rt: HostRuntime) {
     let mut written = room(&rt, rt.alloc());
     let is_judged = is_judged_between_devices(rt.alloc(), &mut written);
-    check_row(&rt, "judgement", is_judged);
-    check_no_growth_is_left(&rt, rt.alloc());
+    check_last(&rt, rt.alloc(), "judgement", is_judged);
 }

@@ -18,15 +18,14 @@ pub(crate) fn followed_by(
     byte: u8,
     count: usize,
 ) -> Vec<u8> {
-    let mut text = vec![in alloc; byte; start.len().saturating_add(count)].expect(rt, "memory");
-    for (place, byte) in text.iter_mut().zip(start.as_bytes()) {
-        *place = *byte;
-    }
+    let rest = vec![in alloc; byte; count].expect(rt, "memory");
+    let mut text = Vec::from_slice(alloc, start.as_bytes()).expect(rt, "memory");
+    text.extend_from_slice(&rest).expect(rt, "memory");
     text
 }
 
 /// Inputs whose first line is of another shape.
-const NO_LENGTH_LINES: [&str; 14] = [
+static NO_LENGTH_LINES: [&str; 14] = [
     "",
     "\n",
     "\0",
@@ -64,7 +63,7 @@ fn no_length_lines_refused(rt: HostRuntime) {
     check_followed(&rt, rt.alloc(), "", b'X', MAX_INPUT, NO_LENGTH);
 }
 
-const OTHER_LENGTHS_REFUSED: [&str; 5] = [
+static OTHER_LENGTHS_REFUSED: [&str; 5] = [
     "length 0\n",
     "length 000\n",
     "length 01\nopen 3 1\n",
@@ -72,7 +71,7 @@ const OTHER_LENGTHS_REFUSED: [&str; 5] = [
     "length 999\n",
 ];
 
-const LONE_LENGTH_LINES: [[&str; 5]; 3] = [
+static LONE_LENGTH_LINES: [[&str; 5]; 3] = [
     ["length 1", HEADER, START, "opening", "ok 0\nFine(0)"],
     ["length 1\n", HEADER, START, "opening", "ok 0\nFine(0)"],
     [
@@ -101,7 +100,7 @@ opening
 refused at line 2: not a line
 Refused(2)";
 
-const LATER_LINES: [&str; 4] = [
+static LATER_LINES: [&str; 4] = [
     "length 1\n\n",
     "length 1\n\nopen 3 1\n",
     "length 1\n\0\n",

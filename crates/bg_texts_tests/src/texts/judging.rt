@@ -10,7 +10,7 @@ const ANSWERED: &str = "  13  14  15  16  17  18  19  20  21  22  23  24
 bar X 0 O 0 off X 0 O 0
 ";
 
-const GOOD_OPENINGS: [[&str; 5]; 2] = [
+static GOOD_OPENINGS: [[&str; 5]; 2] = [
     [
         "length 1\nopen 3 1\nX move 8-5 6-5\n",
         HEADER,
@@ -32,7 +32,16 @@ fn boards_of_good_openings(rt: HostRuntime) {
     check_drawings(&rt, rt.alloc(), &GOOD_OPENINGS);
 }
 
-const BOARDS_OF_REFUSED_OPENINGS: [[&str; 5]; 3] = [
+/// Both players have moved 8-5 6-5.
+const BOTH_OPENED: &str = "  13  14  15  16  17  18  19  20  21  22  23  24
+  X5   .   .   .  O2   .  O4  O2   .   .   .  X2
+  O5   .   .   .  X2   .  X4  X2   .   .   .  O2
+  12  11  10   9   8   7   6   5   4   3   2   1
+bar X 0 O 0 off X 0 O 0
+";
+
+/// Openings that are refused, the Crawford game, doubles, and resignations.
+static BOARDS_OF_REFUSALS_AND_DOUBLES: [[&str; 5]; 9] = [
     [
         "length 1\nopen 3 1\nX move 8-5",
         HEADER,
@@ -54,9 +63,6 @@ const BOARDS_OF_REFUSED_OPENINGS: [[&str; 5]; 3] = [
         "X to move 3 1",
         "refused at line 3: wrong player\nRefused(3)",
     ],
-];
-
-const BOARDS_OF_THE_CRAWFORD_GAME: [[&str; 5]; 2] = [
     [
         "length 3\nopen 1 3\nO resign gammon\nX accept\nopen 3 1\nX move 8-5 6-5\nO double\n",
         "length 3 game 2 score 2-0 cube 1 middle crawford",
@@ -72,17 +78,6 @@ const BOARDS_OF_THE_CRAWFORD_GAME: [[&str; 5]; 2] = [
         "X to answer the double",
         "ok 9\nFine(9)",
     ],
-];
-
-/// Both players have moved 8-5 6-5.
-const BOTH_OPENED: &str = "  13  14  15  16  17  18  19  20  21  22  23  24
-  X5   .   .   .  O2   .  O4  O2   .   .   .  X2
-  O5   .   .   .  X2   .  X4  X2   .   .   .  O2
-  12  11  10   9   8   7   6   5   4   3   2   1
-bar X 0 O 0 off X 0 O 0
-";
-
-const BOARDS_AFTER_DOUBLES: [[&str; 5]; 2] = [
     [
         "length 5\nopen 3 1\nX move 8-5 6-5\nO double\nX take\nO roll 3 1\nO move 8-5 6-5\nX double\nO drop\n",
         "length 5 game 2 score 2-0 cube 1 middle",
@@ -97,9 +92,6 @@ const BOARDS_AFTER_DOUBLES: [[&str; 5]; 2] = [
         "X to roll",
         "ok 8\nFine(8)",
     ],
-];
-
-const BOARDS_AFTER_RESIGNATIONS: [[&str; 5]; 2] = [
     [
         "length 3\nopen 1 3\nO resign gammon\nO accept\n",
         "length 3 game 1 score 0-0 cube 1 middle",
@@ -118,8 +110,5 @@ const BOARDS_AFTER_RESIGNATIONS: [[&str; 5]; 2] = [
 
 #[test]
 fn boards_of_refusals_and_doubles(rt: HostRuntime) {
-    check_drawings(&rt, rt.alloc(), &BOARDS_OF_REFUSED_OPENINGS);
-    check_drawings(&rt, rt.alloc(), &BOARDS_OF_THE_CRAWFORD_GAME);
-    check_drawings(&rt, rt.alloc(), &BOARDS_AFTER_DOUBLES);
-    check_drawings(&rt, rt.alloc(), &BOARDS_AFTER_RESIGNATIONS);
+    check_drawings(&rt, rt.alloc(), &BOARDS_OF_REFUSALS_AND_DOUBLES);
 }

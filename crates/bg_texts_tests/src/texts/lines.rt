@@ -18,38 +18,29 @@ fn is_written(line: &str) -> bool {
     }
 }
 
-/// A row's line is read as the seat and the entry, or refused for the fault, that stand behind the
-/// arrow.
-fn check_line(rt: &impl Abort, alloc: Global, row: &str) {
-    let (line, wanted) = parted(rt, row);
-    check_words(rt, row, told_of(alloc, line.as_bytes()), wanted);
-    check_row(rt, row, is_written(line));
-}
-
+/// The line of each row is read as the seat and the entry, or refused for the fault, that stand
+/// behind the arrow.
 fn check_lines(rt: &impl Abort, alloc: Global, rows: &str) {
     for row in rows.lines() {
-        check_line(rt, alloc, row);
+        let (line, wanted) = parted(rt, row);
+        check_words(rt, row, told_of(alloc, line.as_bytes()), wanted);
+        check_row(rt, row, is_written(line));
     }
 }
 
-const LINES_OF_DICE_AND_DOUBLES: &str = "\
+/// Dice and doubles, turns, resignations, and a pass.
+const LINES_OF_ENTRIES: &str = "\
 open 3 1 -> Ok((None, Opening(Three, One)))
 open 4 4 -> Ok((None, Opening(Four, Four)))
 O roll 6 2 -> Ok((Some(O), Rolled(Dice { first: Six, second: Two })))
 X double -> Ok((Some(X), Doubled))
 O take -> Ok((Some(O), Taken))
 X drop -> Ok((Some(X), Dropped))
-";
-
-const LINES_OF_TURNS: &str = "\
 X move -> Ok((Some(X), Moved([])))
 X move 8-5 6-5 -> Ok((Some(X), Moved([Step { from: 8, to: 5 }, Step { from: 6, to: 5 }])))
 O move bar-off 1-off -> Ok((Some(O), Moved([Step { from: 25, to: 0 }, Step { from: 1, to: 0 }])))
 X move bar-24 bar-24 bar-24 bar-24 -> Ok((Some(X), Moved([\
 Step { from: 25, to: 24 }, Step { from: 25, to: 24 }, Step { from: 25, to: 24 }, Step { from: 25, to: 24 }])))
-";
-
-const LINES_OF_RESIGNATIONS: &str = "\
 X resign normal -> Ok((Some(X), Resigned(Normal)))
 O resign gammon -> Ok((Some(O), Resigned(Gammon)))
 X resign backgammon -> Ok((Some(X), Resigned(Backgammon)))
@@ -60,9 +51,7 @@ pass -> Ok((None, Passed))
 
 #[test]
 fn lines_of_entries(rt: HostRuntime) {
-    check_lines(&rt, rt.alloc(), LINES_OF_DICE_AND_DOUBLES);
-    check_lines(&rt, rt.alloc(), LINES_OF_TURNS);
-    check_lines(&rt, rt.alloc(), LINES_OF_RESIGNATIONS);
+    check_lines(&rt, rt.alloc(), LINES_OF_ENTRIES);
 }
 
 /// Lines that are no entry, and why. A blank behind a line's words is one that the line has.

@@ -1,6 +1,6 @@
 //! The judge where a turn is to be passed, and where none is. The expected texts are those of the
 //! rules and formats, worked out by hand.
-use super::pictures::{HEADER, START, check_drawings, check_drawn, judged};
+use super::pictures::{HEADER, START, check_drawings, check_drawn};
 use super::rules::SECOND_HEADER;
 use super::transcripts::{full_text, is_judged};
 use crate::checks::{check_row, check_told, text_of};
@@ -30,22 +30,19 @@ fn check_shut_out(rt: &impl Abort, alloc: Global, length: &str, header: &str, ro
     check_drawn(rt, alloc, &[input.as_str(), header, HIT, phase, last]);
 }
 
-/// The same by the second rules, of several rows.
-fn check_second(rt: &impl Abort, alloc: Global, rows: &[[&str; 3]]) {
-    for row in rows {
-        check_shut_out(rt, alloc, "length 1 rules 2", SECOND_HEADER, row);
-    }
-}
-
-const PASS_OF_A_TURN: [[&str; 3]; 2] = [
-    ["pass", "O to roll", "ok 6\nFine(6)"],
-    ["", DUE, "ok 5\nFine(5)"],
-];
-
 const WRONG_PHASE: &str = "refused at line 7: wrong phase\nRefused(7)";
 
-/// Lines of either player, and an opening, which follow no turn that is to be passed.
-const OTHER_ENTRIES_WHERE_A_PASS_IS_DUE: [[&str; 3]; 14] = [
+const NOT_A_LINE: &str = "refused at line 7: not a line\nRefused(7)";
+
+const BAD_NUMBER: &str = "refused at line 7: bad number\nRefused(7)";
+
+const TOO_MANY_STEPS: &str = "refused at line 7: too many steps\nRefused(7)";
+
+/// By the second rules: the pass, lines of either player and an opening, which follow no turn that
+/// is to be passed, and lines with faults.
+static WHERE_A_PASS_IS_DUE: [[&str; 3]; 24] = [
+    ["pass", "O to roll", "ok 6\nFine(6)"],
+    ["", DUE, "ok 5\nFine(5)"],
     ["X move", DUE, WRONG_PHASE],
     ["X move 24-18", DUE, WRONG_PHASE],
     ["X move bar-24 24-23 23-22 22-21", DUE, WRONG_PHASE],
@@ -60,15 +57,6 @@ const OTHER_ENTRIES_WHERE_A_PASS_IS_DUE: [[&str; 3]; 14] = [
     ["O reject", DUE, WRONG_PHASE],
     ["open 2 1", DUE, WRONG_PHASE],
     ["open 3 3", DUE, WRONG_PHASE],
-];
-
-const NOT_A_LINE: &str = "refused at line 7: not a line\nRefused(7)";
-
-const BAD_NUMBER: &str = "refused at line 7: bad number\nRefused(7)";
-
-const TOO_MANY_STEPS: &str = "refused at line 7: too many steps\nRefused(7)";
-
-const FAULTS_OF_LINES_WHERE_A_PASS_IS_DUE: [[&str; 3]; 8] = [
     ["X pass\n", DUE, NOT_A_LINE],
     ["O pass\n", DUE, NOT_A_LINE],
     ["pass 1\n", DUE, NOT_A_LINE],
@@ -81,14 +69,14 @@ const FAULTS_OF_LINES_WHERE_A_PASS_IS_DUE: [[&str; 3]; 8] = [
 
 #[test]
 fn entries_where_a_pass_is_due(rt: HostRuntime) {
-    check_second(&rt, rt.alloc(), &PASS_OF_A_TURN);
-    check_second(&rt, rt.alloc(), &OTHER_ENTRIES_WHERE_A_PASS_IS_DUE);
-    check_second(&rt, rt.alloc(), &FAULTS_OF_LINES_WHERE_A_PASS_IS_DUE);
+    for row in &WHERE_A_PASS_IS_DUE {
+        check_shut_out(&rt, rt.alloc(), "length 1 rules 2", SECOND_HEADER, row);
+    }
 }
 
 const WRONG_PLAYER: &str = "refused at line 7: wrong player\nRefused(7)";
 
-const BY_FIRST_RULES: [[&str; 3]; 5] = [
+static BY_FIRST_RULES: [[&str; 3]; 5] = [
     ["X move", "O to roll", "ok 6\nFine(6)"],
     ["pass", "X to move 6 6", WRONG_PHASE],
     ["O move", "X to move 6 6", WRONG_PLAYER],
@@ -103,7 +91,8 @@ fn first_rules_where_no_step_is_left(rt: HostRuntime) {
     }
 }
 
-const PASSES_THAT_ARE_NOT_DUE: [[&str; 5]; 4] = [
+/// Within a match, and after it.
+static PASSES_THAT_ARE_NOT_DUE: [[&str; 5]; 6] = [
     [
         "length 1 rules 2\npass",
         SECOND_HEADER,
@@ -132,9 +121,6 @@ const PASSES_THAT_ARE_NOT_DUE: [[&str; 5]; 4] = [
         "X resigns gammon",
         "refused at line 4: wrong phase\nRefused(4)",
     ],
-];
-
-const PASSES_AFTER_THE_MATCH: [[&str; 5]; 2] = [
     [
         "length 1 rules 2\nopen 3 1\nX resign normal\nO accept\npass",
         "length 1 rules 2 game 1 score 0-1 cube 1 middle crawford",
@@ -154,7 +140,6 @@ const PASSES_AFTER_THE_MATCH: [[&str; 5]; 2] = [
 #[test]
 fn entries_where_none_is_due(rt: HostRuntime) {
     check_drawings(&rt, rt.alloc(), &PASSES_THAT_ARE_NOT_DUE);
-    check_drawings(&rt, rt.alloc(), &PASSES_AFTER_THE_MATCH);
 }
 
 /// Whether a pass behind the text of a full record is refused.
@@ -187,31 +172,20 @@ X roll 6 6
 pass
 ";
 
-fn is_passed(record: &mut Record) -> bool {
-    record.push(Entry::Passed).is_ok() && record.by(6).is_none()
-}
-
-fn push_pass(rt: &impl Abort, record: &mut Record) {
-    push_lines(rt, record, SHUT_OUT);
-    check_row(rt, "no seat passes", is_passed(record));
-}
-
-/// A match in which X, who was shut out, is passed.
-fn passed(rt: &impl Abort, alloc: Global) -> Record {
+/// The transcript of a match in which X, who was shut out, is passed.
+fn transcript_of_passed(rt: &impl Abort, alloc: Global) -> Vec<u8> {
     let mut record = Record::new(alloc, 1, 1, Rules::Two).expect(rt, "a record");
-    push_pass(rt, &mut record);
-    record
+    push_lines(rt, &mut record, SHUT_OUT);
+    let is_passed = record.push(Entry::Passed).is_ok() && record.by(6).is_none();
+    check_row(rt, "no seat passes", is_passed);
+    written(rt, alloc, &record)
 }
 
-/// Its transcript.
 #[test]
 fn transcript_of_a_pass(rt: HostRuntime) {
-    let transcript = written(&rt, rt.alloc(), &passed(&rt, rt.alloc()));
-    check_passed(&rt, rt.alloc(), &transcript);
-}
-
-fn check_passed(rt: &impl Abort, alloc: Global, transcript: &[u8]) {
-    check_told(rt, "transcript", text_of(transcript), PASSED);
-    let told = judged(rt, alloc, transcript);
-    check_row(rt, "verdict", told.ends_with("\nok 6\nFine(6)"));
+    let transcript = transcript_of_passed(&rt, rt.alloc());
+    check_told(&rt, "transcript", text_of(&transcript), PASSED);
+    let verdict = Verdict::Fine(6);
+    let is_judged = is_judged(rt.alloc(), &transcript, verdict, b"\nok 6\n");
+    check_row(&rt, "verdict", is_judged);
 }

@@ -7,19 +7,12 @@ use bg_turns::TurnFault;
 use std::alloc::Global;
 use std::process::Abort;
 
-/// A refusal has these words.
-fn check_reason(rt: &impl Abort, fault: &EntryFault, words: &str) {
-    check_told(rt, words, reason_text(fault).as_str(), words);
-}
-
-const REFUSALS: [(EntryFault, &str); 12] = [
-    // refusals_of_entries_in_words
+static REFUSALS: [(EntryFault, &str); 12] = [
     (EntryFault::RecordFull, "record full"),
     (EntryFault::MatchOver, "match over"),
     (EntryFault::WrongPhase, "wrong phase"),
     (EntryFault::EqualOpening, "equal opening"),
     (EntryFault::Memory, "out of memory"),
-    // refusals_of_turns_in_words
     (
         EntryFault::Turn(TurnFault::StepIllegal(0)),
         "step 1 illegal",
@@ -36,7 +29,6 @@ const REFUSALS: [(EntryFault, &str); 12] = [
         EntryFault::Turn(TurnFault::LargerMustBePlayed),
         "larger die must be played",
     ),
-    // refusals_of_doubles_in_words
     (
         EntryFault::NoDouble(NoDouble::Crawford),
         "no double: crawford",
@@ -51,11 +43,11 @@ const REFUSALS: [(EntryFault, &str); 12] = [
 #[test]
 fn refusals_in_words(rt: HostRuntime) {
     for (fault, words) in &REFUSALS {
-        check_reason(&rt, fault, words);
+        check_told(&rt, words, reason_text(fault).as_str(), words);
     }
 }
 
-const OF_LINES: [(TextFault, &str); 3] = [
+static OF_LINES: [(TextFault, &str); 3] = [
     (TextFault::NotALine, "not a line"),
     (TextFault::BadNumber, "bad number"),
     (TextFault::TooManySteps, "too many steps"),
@@ -65,6 +57,7 @@ const OF_LINES: [(TextFault, &str); 3] = [
 fn refusals_of_lines_in_words(rt: HostRuntime) {
     for &(fault, words) in &OF_LINES {
         check_told(&rt, words, fault.reason(), words);
+        check_printed(&rt, rt.alloc(), &fault, words);
     }
 }
 
@@ -77,12 +70,9 @@ fn faults_are_printed(rt: HostRuntime) {
     let write = "the output could not be written";
     check_printed(&rt, alloc, &EngineFault::Write, write);
     check_printed(&rt, alloc, &EngineFault::Memory, "out of memory");
-    check_printed(&rt, alloc, &TextFault::NotALine, "not a line");
-    check_printed(&rt, alloc, &TextFault::BadNumber, "bad number");
-    check_printed(&rt, alloc, &TextFault::TooManySteps, "too many steps");
 }
 
-const OF_TRANSCRIPTS: [(LineFault, &str); 6] = [
+static OF_TRANSCRIPTS: [(LineFault, &str); 6] = [
     (LineFault::NotALengthLine, "not a length line"),
     (LineFault::LengthOutOfRange, "length out of range"),
     (LineFault::Text(TextFault::BadNumber), "bad number"),
@@ -94,12 +84,15 @@ const OF_TRANSCRIPTS: [(LineFault, &str); 6] = [
     (LineFault::Entry(EntryFault::RecordFull), "record full"),
 ];
 
+/// Behind which words those of a fault stand, where its line is told.
+const BEHIND: &str = "refused at line 12: ";
+
 /// A fault has these words, and behind its line too.
 fn check_line_fault(rt: &impl Abort, alloc: Global, why: LineFault, words: &str) {
+    check_printed(rt, alloc, &why, words);
     let refused = TranscriptFault::Refused { line: 12, why };
-    let printed = format!(in alloc; "{why}; {refused}").expect(rt, "memory");
-    let parts = printed.split_once("; refused at line 12: ");
-    check_row(rt, words, parts == Some((words, words)));
+    let printed = format!(in alloc; "{refused}").expect(rt, "memory");
+    check_row(rt, words, printed.strip_prefix(BEHIND) == Some(words));
 }
 
 #[test]

@@ -27,13 +27,14 @@ pub(crate) fn record(rt: &impl Abort, alloc: Global) -> Record {
     record
 }
 
-/// A record is that of MATCH, as match number 7.
-pub(crate) fn check_is_match(rt: &impl Abort, alloc: Global, read: &Record) {
-    let numbers = (read.id(), read.len(), read.length()) == (7, 2, 1);
-    check_row(rt, "match 7 of length 1 with 2 entries", numbers);
-    check_row(rt, "the first rules", read.rules() == Rules::One);
-    let is_written = written(rt, alloc, read).as_slice() == MATCH.as_bytes();
-    check_row(rt, "transcript", is_written);
+pub(crate) const MATCH_7: &str =
+    "match 7 of length 1 by the first rules, with 2 entries and their transcript";
+
+/// Whether a record is that of MATCH, as match number 7.
+pub(crate) fn is_match(rt: &impl Abort, alloc: Global, read: &Record) -> bool {
+    (read.id(), read.len(), read.length()) == (7, 2, 1)
+        && read.rules() == Rules::One
+        && written(rt, alloc, read).as_slice() == MATCH.as_bytes()
 }
 
 /// Whether an entry and its answer are appended again and again, and then that entry.

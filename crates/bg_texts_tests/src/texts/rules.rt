@@ -2,18 +2,18 @@
 //! are those of the formats, worked out by hand.
 use super::inputs::{LENGTH_OUT_OF_RANGE, NO_LENGTH};
 use super::pictures::{START, check_board, check_drawings, check_each};
-use crate::checks::check_text;
+use crate::checks::{check_told, text_of};
 use bg_board::{Board, Die, Player};
 use bg_match::{Cube, Phase, Rules, Standing};
 use bg_text::put_terms;
 use bg_turns::Dice;
-use std::alloc::{AllocError, Global};
+use std::alloc::Global;
 use std::process::Abort;
 
 pub(crate) const SECOND_HEADER: &str = "length 1 rules 2 game 1 score 0-0 cube 1 middle crawford";
 
 /// Lines of another shape than that of a length line.
-const LINES_THAT_NAME_NO_RULES: [&str; 20] = [
+static LINES_THAT_NAME_NO_RULES: [&str; 20] = [
     "length 1 rules 1\n",
     "length 1 rules 02\n",
     "length 1 rules 2 \n",
@@ -36,7 +36,7 @@ const LINES_THAT_NAME_NO_RULES: [&str; 20] = [
     "rules 2\n",
 ];
 
-const LENGTHS_OUT_OF_RANGE: [&str; 5] = [
+static LENGTHS_OUT_OF_RANGE: [&str; 5] = [
     "length 0 rules 2\n",
     "length 000 rules 2\n",
     "length 01 rules 2\nopen 3 1\n",
@@ -44,7 +44,7 @@ const LENGTHS_OUT_OF_RANGE: [&str; 5] = [
     "length 999 rules 2\n",
 ];
 
-const LONE_LINES_OF_THE_SECOND_RULES: [[&str; 5]; 3] = [
+static LONE_LINES_OF_THE_SECOND_RULES: [[&str; 5]; 3] = [
     [
         "length 1 rules 2",
         SECOND_HEADER,
@@ -84,9 +84,10 @@ const O_ON_THE_BAR: [u8; 26] = [
     14, 0, 0, 0, 0, 0, 0, 0, 0, 0, 0, 0, 0, 0, 0, 0, 0, 0, 0, 0, 0, 0, 0, 0, 0, 1,
 ];
 
-/// The standing of a match by these rules where O is to move these dice, with a checker on the bar:
-/// a one alone lets it in.
-fn standing_of(rt: &impl Abort, rules: Rules, first: Die, second: Die) -> Standing {
+/// The standing of a match by these rules where O is to move a five and another die, with a checker
+/// on the bar: a one alone lets it in.
+fn standing_of(rt: &impl Abort, rules: Rules, second: Die) -> Standing {
+    let first = Die::Five;
     let cube = Cube {
         value: 2,
         owner: Some(Player::X),
@@ -97,8 +98,8 @@ fn standing_of(rt: &impl Abort, rules: Rules, first: Die, second: Die) -> Standi
     standing.expect(rt, "a standing")
 }
 
-/// A five is thrown, and another die.
-const BOTH_RULES: [(Rules, Die, &str); 4] = [
+/// The rules, the die that is thrown beside a five, and the board.
+static BOTH_RULES: [(Rules, Die, &str); 4] = [
     (
         Rules::One,
         Die::Four,
@@ -151,22 +152,17 @@ O to move 5 1
 
 #[test]
 fn boards_of_both_rules(rt: HostRuntime) {
-    for &(rules, die, wanted) in &BOTH_RULES {
-        let standing = standing_of(&rt, rules, Die::Five, die);
+    for &(rules, second, wanted) in &BOTH_RULES {
+        let standing = standing_of(&rt, rules, second);
         check_board(&rt, rt.alloc(), &standing, wanted);
     }
 }
 
-/// A length and rules behind other words.
-fn terms_text(alloc: Global, rules: Rules) -> Result<Vec<u8>, AllocError> {
-    let mut text = Vec::from_slice(alloc, b"a ")?;
-    put_terms(&mut text, 25, rules)?;
-    Ok(text)
-}
-
 /// A length and rules are put so behind other words.
 fn check_terms(rt: &impl Abort, alloc: Global, rules: Rules, words: &str) {
-    check_text(rt, words, terms_text(alloc, rules), words);
+    let mut text = Vec::from_slice(alloc, b"a ").expect(rt, "memory");
+    put_terms(&mut text, 25, rules).expect(rt, "memory");
+    check_told(rt, words, text_of(&text), words);
 }
 
 #[test]

@@ -1,22 +1,18 @@
 //! Refused growths.
 use super::{Place, start};
-use crate::checks::{check_no_growth_is_left, check_row};
+use crate::checks::check_last;
 use bg_board::{Die, Player, Step};
-use bg_turns::Turn;
 use bg_typed::{TypedFault, read_turn};
 use std::alloc::Global;
 
-/// The turn that is read, also where memory is refused once.
-fn read(alloc: Global, at: &Place) -> Result<Turn, TypedFault> {
-    match read_turn(alloc, b"24/14", &at.board, at.player, at.dice) {
-        Err(TypedFault::Memory) => read_turn(alloc, b"24/14", &at.board, at.player, at.dice),
-        read => read,
-    }
-}
-
+/// Whether the turn is read, also where memory is refused once.
 fn is_read(alloc: Global, at: &Place) -> bool {
     let steps = [Step::down(24, 4), Step::down(20, 6)];
-    match read(alloc, at) {
+    let read = match read_turn(alloc, b"24/14", &at.board, at.player, at.dice) {
+        Err(TypedFault::Memory) => read_turn(alloc, b"24/14", &at.board, at.player, at.dice),
+        read => read,
+    };
+    match read {
         Ok(turn) => turn.steps() == steps.as_slice(),
         Err(_) => false,
     }
@@ -27,6 +23,5 @@ fn is_read(alloc: Global, at: &Place) -> bool {
 #[test]
 fn refused_growths_of_typed_turns(rt: HostRuntime) {
     let at = start(Player::X, Die::Six, Die::Four);
-    check_row(&rt, "24-20 20-14", is_read(rt.alloc(), &at));
-    check_no_growth_is_left(&rt, rt.alloc());
+    check_last(&rt, rt.alloc(), "24-20 20-14", is_read(rt.alloc(), &at));
 }

@@ -19,7 +19,7 @@ fn fits(rt: &impl Abort, alloc: Global, at: &Place, typed: &str) -> bool {
 }
 
 /// O has single checkers on his 5 and his 7 point, which are 20 and 18 to X.
-const MARKS: [(&str, bool); 11] = [
+static MARKS: [(&str, bool); 11] = [
     ("24/20*", true),
     ("24/20", true),
     ("24/22*", false),

@@ -13,7 +13,7 @@ const OTHER_HITS: &str = "no legal turn has this movement with these hits";
 const SEVERAL: &str = "several turns are legal";
 
 /// At the start, with 3 and 1.
-const REFUSALS: [(&str, &str); 25] = [
+static REFUSALS: [(&str, &str); 25] = [
     ("hello", NO_MOVEMENT),
     ("8", NO_MOVEMENT),
     ("8/", NO_MOVEMENT),
@@ -50,7 +50,7 @@ fn refusals(rt: HostRuntime) {
 
 /// Marks that are not just the hits. O has single checkers on his 5 and his 7 point, which are 20
 /// and 18 to X.
-const HITS: [(&str, &str); 7] = [
+static HITS: [(&str, &str); 7] = [
     ("24/14*", OTHER_HITS),
     ("24/20*/14*", OTHER_HITS),
     ("24/20 24/18*", OTHER_HITS),

@@ -5,7 +5,7 @@ use bg_board::{Die, Player};
 use bg_turns::Dice;
 
 /// One turn in all spellings.
-const SPELLINGS: [(&str, &str); 9] = [
+static SPELLINGS: [(&str, &str); 9] = [
     ("move 8-5 6-5", "move 8-5 6-5"),
     ("8-5 6-5", "move 8-5 6-5"),
     ("8/5 6/5", "move 8-5 6-5"),
@@ -24,7 +24,7 @@ fn spellings(rt: HostRuntime) {
 }
 
 /// With 6 and 4.
-const MERGED: [(&str, &str); 5] = [
+static MERGED: [(&str, &str); 5] = [
     ("24/14", "move 24-20 20-14"),
     ("24/20/14", "move 24-20 20-14"),
     ("24-18-14", "move 24-18 18-14"),
@@ -33,7 +33,7 @@ const MERGED: [(&str, &str); 5] = [
 ];
 
 /// With two fives.
-const MERGED_BY_DOUBLES: [(&str, &str); 5] = [
+static MERGED_BY_DOUBLES: [(&str, &str); 5] = [
     ("13/3(2)", "move 13-8 13-8 8-3 8-3"),
     ("13/8(2) 8/3(2)", "move 13-8 13-8 8-3 8-3"),
     ("13/8/3(2)", "move 13-8 8-3 13-8 8-3"),
@@ -51,7 +51,7 @@ fn merged_steps(rt: HostRuntime) {
 }
 
 /// A letter that is no whole word stands for nothing.
-const FROM_THE_BAR: [(&str, &str); 8] = [
+static FROM_THE_BAR: [(&str, &str); 8] = [
     ("b/18", "move bar-22 22-18"),
     ("B-18", "move bar-22 22-18"),
     ("bar/18", "move bar-22 22-18"),
@@ -84,7 +84,7 @@ fn the_bar_and_off(rt: HostRuntime) {
 }
 
 /// O has a single checker on his 5 point, which is 20 to X.
-const HITS_BY_X: [(&str, &str); 8] = [
+static HITS_BY_X: [(&str, &str); 8] = [
     ("24/20*/14", "move 24-20 20-14"),
     ("24/20/14", "move 24-20 20-14"),
     ("24/18/14", "move 24-18 18-14"),
@@ -96,7 +96,7 @@ const HITS_BY_X: [(&str, &str); 8] = [
 ];
 
 /// X has a single checker on his 7 point, which is 18 to O.
-const HITS_BY_O: [(&str, &str); 3] = [
+static HITS_BY_O: [(&str, &str); 3] = [
     ("24-14", "move 24-20 20-14 or move 24-18 18-14"),
     ("24-18*-14", "move 24-18 18-14"),
     ("24/18/14", "move 24-18 18-14"),
@@ -118,7 +118,7 @@ fn hits(rt: HostRuntime) {
     check_typed(&rt, rt.alloc(), &at, &HITS_BY_O);
 }
 
-const LAST: [(&str, &str); 5] = [
+static LAST: [(&str, &str); 5] = [
     ("", "move 6-off"),
     (" , ", "move 6-off"),
     ("m", "move 6-off"),
@@ -126,7 +126,7 @@ const LAST: [(&str, &str); 5] = [
     ("6/off", "move 6-off"),
 ];
 
-const SHUT_OUT: [(&str, &str); 3] = [("", "move"), ("m", "move"), ("move", "move")];
+static SHUT_OUT: [(&str, &str); 3] = [("", "move"), ("m", "move"), ("move", "move")];
 
 /// Without a movement the only turn is meant.
 #[test]

@@ -5,16 +5,7 @@ use bg_board::Player;
 use bg_match::{Action, Terms};
 use bg_processes::{Going, RefereeProcess, SeatProcess, WatcherProcess};
 use bg_world::{Keeper, Link, Outcome};
-use std::alloc::{AllocError, Global};
-use std::io;
-
-/// The devices of a party, where both can be had.
-pub(super) fn both<L: Drop, K: Drop>(
-    link: io::Result<L>,
-    keeper: Result<K, AllocError>,
-) -> Option<(L, K)> {
-    Some((link.ok()?, keeper.ok()?))
-}
+use std::alloc::Global;
 
 /// The referee's process, unless it can't begin now.
 pub(super) fn begun_referee<L: Link + Drop, K: Keeper + Drop>(
@@ -112,11 +103,13 @@ pub(super) fn seat_does<L: Link, K: Keeper, O: Observer>(
     word: &str,
     observer: &mut O,
 ) -> bool {
-    if word == "plays" {
+    if word == "plays" || word == "loses" {
         let chosen = choice_of(alloc, process, player, observer);
-        matches!(chosen, Some(Outcome::Chose(Ok(_))))
-    } else if word == "loses" {
-        choice_of(alloc, process, player, observer) == Some(Outcome::SaveFault)
+        if word == "plays" {
+            matches!(chosen, Some(Outcome::Chose(Ok(_))))
+        } else {
+            chosen == Some(Outcome::SaveFault)
+        }
     } else if word == "ends" {
         process.save_now(observer).is_ok()
     } else {

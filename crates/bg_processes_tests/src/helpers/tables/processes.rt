@@ -41,17 +41,8 @@ impl<L, K> Running<L, K> {
 }
 
 impl<L: Link + Drop, K: Keeper + Drop> Running<L, K> {
-    /// The process of the referee or of a seat begins, unless it can't now or has no devices.
-    pub(super) fn begin(
-        &mut self,
-        alloc: Global,
-        party: u8,
-        terms: Terms,
-        devices: Option<(L, K)>,
-    ) {
-        let Some((link, keeper)) = devices else {
-            return;
-        };
+    /// The process of the referee or of a seat begins, unless it can't now.
+    pub(super) fn begin(&mut self, alloc: Global, party: u8, terms: Terms, link: L, keeper: K) {
         match party {
             REFEREE => self.referee = begun_referee(alloc, terms, link, keeper),
             SEAT_OF_X => self.x = begun_seat(alloc, Player::X, terms, link, keeper),
