@@ -96,7 +96,6 @@ impl Argument {
 }
 
 /// A command.
-#[derive(Clone, Copy)]
 pub(crate) struct Description {
     pub(crate) name: &'static str,
     /// The line on the command in the list of all.
@@ -109,7 +108,7 @@ pub(crate) struct Description {
 
 impl Description {
     /// Returns the command as the parser of the command line takes it.
-    pub(crate) fn command<'a>(self, alloc: Global) -> Result<Command<'a>, Error> {
+    pub(crate) fn command<'a>(&self, alloc: Global) -> Result<Command<'a>, Error> {
         let mut command = self.without_arguments(alloc);
         for argument in self.arguments {
             command = with(command, argument.described(alloc)?)?;
@@ -118,7 +117,7 @@ impl Description {
     }
 
     /// Returns the command with its help, and no arguments yet.
-    fn without_arguments<'a>(self, alloc: Global) -> Command<'a> {
+    fn without_arguments<'a>(&self, alloc: Global) -> Command<'a> {
         let command = Command::new(alloc, self.name)
             .about(self.about)
             .long_about(self.long_about);

@@ -64,7 +64,7 @@ const ACTION: Argument = Argument {
 };
 
 /// The command with its options and help.
-pub(crate) const COMMAND: Description = Description {
+pub(crate) static COMMAND: Description = Description {
     name: "act",
     about: "Make one action, for scripts",
     long_about: ABOUT_ACT,

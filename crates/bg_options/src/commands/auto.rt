@@ -12,7 +12,7 @@ Saves its actions in DIR, a folder for this player alone, which is made if it is
 Exit status: as for `play`.";
 
 /// The command with its options and help.
-pub(crate) const COMMAND: Description = Description {
+pub(crate) static COMMAND: Description = Description {
     name: "auto",
     about: "Let an automatic player play a match",
     long_about: ABOUT_AUTO,

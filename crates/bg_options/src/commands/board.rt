@@ -90,7 +90,7 @@ const PLACES: Argument = Argument {
 };
 
 /// The command with its options and help.
-pub(crate) const COMMAND: Description = Description {
+pub(crate) static COMMAND: Description = Description {
     name: "board",
     about: "Keep web pages of many matches",
     long_about: ABOUT_BOARD,

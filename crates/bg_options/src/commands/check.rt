@@ -113,7 +113,7 @@ const FILES: Argument = Argument {
 };
 
 /// The command with its options and help.
-pub(crate) const COMMAND: Description = Description {
+pub(crate) static COMMAND: Description = Description {
     name: "check",
     about: "Judge many files",
     long_about: ABOUT_CHECK,

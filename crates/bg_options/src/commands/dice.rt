@@ -37,7 +37,7 @@ const SECRET: Argument = Argument {
 };
 
 /// The command with its options and help.
-pub(crate) const COMMAND: Description = Description {
+pub(crate) static COMMAND: Description = Description {
     name: "dice",
     about: "Check the dice of a match by their secret",
     long_about: ABOUT_DICE,

@@ -69,7 +69,7 @@ const O: Argument = Argument {
 };
 
 /// The command with its options and help.
-pub(crate) const COMMAND: Description = Description {
+pub(crate) static COMMAND: Description = Description {
     name: "export",
     about: "Convert a transcript into a match file for other programs",
     long_about: ABOUT_EXPORT,

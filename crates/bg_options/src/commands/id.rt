@@ -22,7 +22,7 @@ Exit status: 0 for success, 2 if the transcript is refused, 1 if reading, writin
 failed.";
 
 /// The command with its options and help.
-pub(crate) const COMMAND: Description = Description {
+pub(crate) static COMMAND: Description = Description {
     name: "id",
     about: "Print the IDs that other programs use for a position",
     long_about: ABOUT_ID,

@@ -70,7 +70,7 @@ pub(crate) const HEADERS: Argument = Argument {
 };
 
 /// The command with its options and help.
-pub(crate) const COMMAND: Description = Description {
+pub(crate) static COMMAND: Description = Description {
     name: "import",
     about: "Convert a match file of another program into a transcript",
     long_about: ABOUT_IMPORT,

@@ -31,7 +31,7 @@ Exit status: 0 if the transcript is legal, 2 if it is refused, 1 if reading, wri
 failed.";
 
 /// The command with its options and help.
-pub(crate) const COMMAND: Description = Description {
+pub(crate) static COMMAND: Description = Description {
     name: "judge",
     about: "Judge the transcript of a match on standard input",
     long_about: ABOUT_JUDGE,

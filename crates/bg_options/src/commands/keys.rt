@@ -17,7 +17,7 @@ Exit status: 0 for success; 2 if DIR is not a folder, has no match, or has some 
 `key-secret`; 1 if another process uses DIR, or reading, writing or memory failed.";
 
 /// The command with its options and help.
-pub(crate) const COMMAND: Description = Description {
+pub(crate) static COMMAND: Description = Description {
     name: "keys",
     about: "Make the key files of a match",
     long_about: ABOUT_KEYS,

@@ -68,7 +68,7 @@ const FOLDERS: Argument = Argument {
 };
 
 /// The command with its options and help.
-pub(crate) const COMMAND: Description = Description {
+pub(crate) static COMMAND: Description = Description {
     name: "list",
     about: "List matches and where they stand",
     long_about: ABOUT_LIST,

@@ -168,7 +168,7 @@ const RESTORE: Argument = Argument {
 };
 
 /// The command with its options and help.
-pub(crate) const COMMAND: Description = Description {
+pub(crate) static COMMAND: Description = Description {
     name: "manage",
     about: "Hide, delete, copy or restore the matches of a server",
     long_about: ABOUT_MANAGE,

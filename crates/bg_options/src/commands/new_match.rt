@@ -63,7 +63,7 @@ const PORT: Argument = Argument {
 };
 
 /// The command with its options and help.
-pub(crate) const COMMAND: Description = Description {
+pub(crate) static COMMAND: Description = Description {
     name: "new",
     about: "Make a match between processes",
     long_about: ABOUT_NEW,

@@ -62,7 +62,7 @@ const MATCH: Argument = Argument {
 };
 
 /// The command with its options and help.
-pub(crate) const COMMAND: Description = Description {
+pub(crate) static COMMAND: Description = Description {
     name: "page",
     about: "Turn a transcript into a web page",
     long_about: ABOUT_PAGE,

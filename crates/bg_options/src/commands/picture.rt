@@ -40,7 +40,7 @@ impl<'a> PictureOptions<'a> {
 }
 
 /// The command with its options and help.
-pub(crate) const COMMAND: Description = Description {
+pub(crate) static COMMAND: Description = Description {
     name: "picture",
     about: "Draw the last position of a transcript",
     long_about: ABOUT_PICTURE,

@@ -77,7 +77,7 @@ const FORCED: Argument = Argument {
 };
 
 /// The command with its options and help.
-pub(crate) const COMMAND: Description = Description {
+pub(crate) static COMMAND: Description = Description {
     name: "play",
     about: "Play a match at this terminal",
     long_about: ABOUT_PLAY,

@@ -58,7 +58,7 @@ const FOLDER: Argument = Argument {
 };
 
 /// The command with its options and help.
-pub(crate) const COMMAND: Description = Description {
+pub(crate) static COMMAND: Description = Description {
     name: "loop",
     about: "Play an automatic match over UDP sockets and files",
     long_about: ABOUT_LOOP,

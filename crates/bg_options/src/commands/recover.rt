@@ -92,7 +92,7 @@ const TRANSCRIPTS: Argument = Argument {
 };
 
 /// The command with its options and help.
-pub(crate) const COMMAND: Description = Description {
+pub(crate) static COMMAND: Description = Description {
     name: "recover",
     about: "Make a lost referee's folder again from what others hold",
     long_about: ABOUT_RECOVER,

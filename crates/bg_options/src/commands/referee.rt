@@ -33,7 +33,7 @@ impl<'a> RefereeOptions<'a> {
 }
 
 /// The command with its options and help.
-pub(crate) const COMMAND: Description = Description {
+pub(crate) static COMMAND: Description = Description {
     name: "referee",
     about: "Run the referee of a match until it is over",
     long_about: ABOUT_REFEREE,

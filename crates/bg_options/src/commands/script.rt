@@ -37,7 +37,7 @@ impl ScriptOptions {
 }
 
 /// The command with its options and help.
-pub(crate) const COMMAND: Description = Description {
+pub(crate) static COMMAND: Description = Description {
     name: "script",
     about: "Apply the events on standard input to a match in memory",
     long_about: ABOUT_SCRIPT,

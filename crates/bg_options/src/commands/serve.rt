@@ -98,7 +98,7 @@ const STORE: Argument = Argument {
 };
 
 /// The command with its options and help.
-pub(crate) const COMMAND: Description = Description {
+pub(crate) static COMMAND: Description = Description {
     name: "serve",
     about: "Let people play and watch matches in a browser",
     long_about: ABOUT_SERVE,

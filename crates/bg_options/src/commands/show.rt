@@ -64,7 +64,7 @@ const FILE1: Argument = Argument {
 };
 
 /// The command with its options and help.
-pub(crate) const COMMAND: Description = Description {
+pub(crate) static COMMAND: Description = Description {
     name: "show",
     about: "Show what saved files hold",
     long_about: ABOUT_SHOW,

@@ -51,7 +51,7 @@ const STEPS: Argument = Argument {
 };
 
 /// The command with its options and help.
-pub(crate) const COMMAND: Description = Description {
+pub(crate) static COMMAND: Description = Description {
     name: "sim",
     about: "Play an automatic match in memory",
     long_about: ABOUT_SIM,

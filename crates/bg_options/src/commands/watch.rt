@@ -102,7 +102,7 @@ const PLAIN: Argument = Argument {
 };
 
 /// The command with its options and help.
-pub(crate) const COMMAND: Description = Description {
+pub(crate) static COMMAND: Description = Description {
     name: "watch",
     about: "Watch a match",
     long_about: ABOUT_WATCH,
