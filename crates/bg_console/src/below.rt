@@ -1,5 +1,6 @@
 //! The matches below a folder.
 
+use crate::entries::entries_in;
 use crate::paths::{not_memory, path_in, without_slashes};
 use std::alloc::Global;
 use std::io::ErrorKind;
@@ -126,14 +127,9 @@ fn has_file(rt: &HostRuntime, folder: &str, name: &str) -> io::Result<io::Result
 
 /// Appends the folders in a folder to others, except those whose names are not text.
 fn add_folders(rt: &HostRuntime, path: &str, folders: &mut Vec<String>) -> io::Result<()> {
-    for found in fs::read_dir(&rt, path)? {
-        let found = match found {
-            Ok(found) => found,
-            Err(error) if error.kind() == ErrorKind::InvalidFilename => continue,
-            Err(error) => return Err(error),
-        };
-        if found.file_type().is_ok_and(|kind| kind.is_dir()) {
-            folders.push(String::from_str(rt.alloc(), found.path().as_str())?)?;
+    for found in entries_in(rt, path)?.iter() {
+        if found.kind.is_some_and(|kind| kind.is_dir()) {
+            folders.push(path_in(rt.alloc(), path, found.name.as_str())?)?;
         }
     }
     Ok(())

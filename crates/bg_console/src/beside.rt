@@ -1,6 +1,8 @@
 //! The matches beside a folder.
 
+use crate::entries::entries_in;
 use crate::messages::no_memory;
+use crate::paths::path_in;
 use bg_reports::Ending;
 use bg_system::MatchFile;
 use std::os::unix::fs::MetadataExt;
@@ -33,11 +35,8 @@ fn found_beside(rt: &HostRuntime, folder: &str) -> io::Result<Vec<MatchBeside>> 
         above.as_str()
     };
     let mut matches = Vec::new(rt.alloc());
-    for found in fs::read_dir(&rt, listed)? {
-        let Ok(found) = found else {
-            continue;
-        };
-        let name = format!(in rt.alloc(); "{}/match", found.file_name())?;
+    for found in entries_in(rt, listed)?.iter() {
+        let name = path_in(rt.alloc(), found.name.as_str(), "match")?;
         let path = Path::new(above.as_str()).join(rt.alloc(), name.as_str())?;
         if let Ok(Some(file)) = MatchFile::read(rt, path.as_str()) {
             matches.push(MatchBeside {

@@ -23,6 +23,7 @@ mod below;
 mod beside;
 mod breaking;
 mod colours;
+mod entries;
 mod folder_keys;
 mod handed_files;
 mod messages;
@@ -38,6 +39,7 @@ pub use below::{Finding, MatchBelow, NO_MATCH, matches_below};
 pub use beside::{MatchBeside, matches_beside};
 pub use breaking::broken;
 pub use colours::{with_bold_offers, with_coloured_checkers};
+pub use entries::{FolderEntry, entries_in};
 pub use folder_keys::{has_key_secret, key_files_in, key_files_of};
 pub use handed_files::{key_file_of, match_of, seat_key_file_of, table_of};
 pub use messages::progress::Progress;
@@ -46,7 +48,7 @@ pub use messages::{
     allocated, engine_failed, failed, failed_at, failed_barely, failed_for, failed_or, failed_with,
     no_memory, unread, unwritten, written, wrong, wrong_at, wrong_for,
 };
-pub use out_folders::check_out_folder;
+pub use out_folders::{check_out_file, check_out_folder};
 pub use pairings::{Called, Pairing, page_words, title_of};
 pub use paths::{folder_of, not_memory, path_in, slot_path, without_slashes};
 pub use published::{Outputs, Published, is_one_file};

@@ -1,4 +1,4 @@
-//! The folders that files are written into.
+//! The folders that files are written into, and the files that are replaced.
 
 use crate::messages::{wrong_at, wrong_for};
 use bg_reports::Ending;
@@ -17,5 +17,16 @@ pub fn check_out_folder(rt: &HostRuntime, folder: &str) -> Result<(), Ending> {
             Err(wrong_at(rt, folder, " is missing: make it first"))
         }
         Err(error) => Err(wrong_for(rt, folder, NOT_USED, &error)),
+    }
+}
+
+/// Refuses what is there and is no regular file, such as a device, since writing a file replaces
+/// what is at its path. Ends with `WrongArguments`.
+pub fn check_out_file(rt: &HostRuntime, path: &str) -> Result<(), Ending> {
+    match fs::metadata(rt, path) {
+        Ok(found) if !found.is_file() => {
+            Err(wrong_at(rt, path, " is no regular file: name another one"))
+        }
+        _ => Ok(()),
     }
 }

@@ -6,15 +6,14 @@ use std::alloc::{AllocError, Global};
 use std::io;
 use std::io::ErrorKind;
 
-/// Returns the path of a file with this name in a folder.
+/// Returns the path of a file with this name in a folder. A slash at the end of the folder's name
+/// is not doubled.
 ///
 /// # Errors
 /// `AllocError` where memory runs out.
 pub fn path_in(alloc: Global, folder: &str, name: &str) -> Result<String, AllocError> {
-    let mut path = String::from_str(alloc, folder)?;
-    path.push_str("/")?;
-    path.push_str(name)?;
-    Ok(path)
+    let slash = if folder.ends_with('/') { "" } else { "/" };
+    format!(in alloc; "{folder}{slash}{name}")
 }
 
 /// Returns the path of a party's file in a folder.
