@@ -22,7 +22,6 @@ use std::alloc::Global;
 /// party that saves (docs/PROTOCOL.md, "The state and its steps").
 ///
 /// Contracts see the match, the link, the keepers, and the core of each party that is up.
-#[derive(Drop)]
 pub struct World<L, K> {
     pub(crate) alloc: Global,
     pub(crate) id: u64,
@@ -37,6 +36,23 @@ pub struct World<L, K> {
     ghost same_id: { (referee.id ≡ id) × (x.id ≡ id) × (o.id ≡ id) },
     ghost same_terms: { (referee.terms ≡ terms) × (x.terms ≡ terms) × (o.terms ≡ terms) },
     ghost players: { (x.player ≡ X) × (o.player ≡ O) },
+}
+
+// Written out, so that an owner proves one call, and not the drop of each field.
+impl<L: Drop, K: Drop> Drop for World<L, K> {
+    fn drop(self) {
+        let World {
+            alloc: _,
+            id: _,
+            terms: _,
+            link: _,
+            keepers: _,
+            referee: _,
+            x: _,
+            o: _,
+            watchers: _,
+        } = self;
+    }
 }
 
 impl<L: Link + Drop, K: Keeper + Drop> World<L, K> {

@@ -15,13 +15,25 @@ use std::rt::Files;
 /// "Files"). Nothing is claimed of their honesty: others may write to these files.
 ///
 /// It notes why a call failed, with the file, in the [`Failures`] that it borrows.
-#[derive(Drop)]
 pub struct FileKeeper<'a, R> {
     files: PartyFiles<'a, R>,
     writes: History,
     reads: History,
     faults: History,
     written: Result<(), DeviceFault>,
+}
+
+// Written out, so that an owner proves one call, and not the drop of each field.
+impl<'a, R> Drop for FileKeeper<'a, R> {
+    fn drop(self) {
+        let FileKeeper {
+            files: _,
+            writes: _,
+            reads: _,
+            faults: _,
+            written: _,
+        } = self;
+    }
 }
 
 impl<'a, R: Files<File = File> + AllocGlobal> FileKeeper<'a, R> {

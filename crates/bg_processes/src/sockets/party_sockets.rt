@@ -22,13 +22,25 @@ use std::time::Clock;
 /// a seat, it tells it the other one's presence.
 ///
 /// It notes why a call failed in the [`Failures`] that it borrows.
-#[derive(Drop)]
 pub struct PartySocket<'a, C> {
     end: PartyEnd<'a, C>,
     takes: History,
     sends: History,
     faults: History,
     taken: Result<Option<History>, DeviceFault>,
+}
+
+// Written out, so that an owner proves one call, and not the drop of each field.
+impl<'a, C> Drop for PartySocket<'a, C> {
+    fn drop(self) {
+        let PartySocket {
+            end: _,
+            takes: _,
+            sends: _,
+            faults: _,
+            taken: _,
+        } = self;
+    }
 }
 
 impl<'a, C: Clock> PartySocket<'a, C> {

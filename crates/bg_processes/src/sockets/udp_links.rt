@@ -15,13 +15,25 @@ use std::net::Net;
 /// datagrams.
 ///
 /// It notes why a call failed, with the party, in the [`Failures`] that it borrows.
-#[derive(Drop)]
 pub struct UdpLink<'a> {
     sockets: OwnSockets<'a>,
     takes: History,
     sends: History,
     faults: History,
     taken: Result<Option<History>, DeviceFault>,
+}
+
+// Written out, so that an owner proves one call, and not the drop of each field.
+impl<'a> Drop for UdpLink<'a> {
+    fn drop(self) {
+        let UdpLink {
+            sockets: _,
+            takes: _,
+            sends: _,
+            faults: _,
+            taken: _,
+        } = self;
+    }
 }
 
 impl<'a> UdpLink<'a> {

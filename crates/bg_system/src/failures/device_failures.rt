@@ -56,24 +56,32 @@ pub struct FailureText<'a> {
 
 impl<'a> Display for FailureText<'a> {
     fn fmt<W: Write>(&self, f: &mut Formatter<W>) -> fmt::Result {
-        let folder = Printable(self.folder);
         match self.failure.call {
             FailedCall::Open { party } => write!(f, "no socket for party {party} on 127.0.0.1")?,
             FailedCall::Send { to } => write!(f, "no datagram could be sent to party {to}")?,
             FailedCall::Receive { party } => {
                 write!(f, "the socket of party {party} could not be read")?
             }
-            FailedCall::Write(file) => write!(f, "{folder}/{file} could not be written")?,
-            FailedCall::Read(file) => write!(f, "{folder}/{file} could not be read")?,
-            FailedCall::Sync => write!(f, "{folder} could not be synced")?,
-            FailedCall::Find => write!(f, "{folder} can't be found")?,
+            FailedCall::Write(file) => self.put_file(f, file, "could not be written")?,
+            FailedCall::Read(file) => self.put_file(f, file, "could not be read")?,
             FailedCall::TakeBack(file) => {
-                write!(
-                    f,
-                    "{folder}/{file} could not be emptied after a sync that failed"
-                )?
+                self.put_file(f, file, "could not be emptied after a sync that failed")?
             }
+            FailedCall::Sync => self.put_folder(f, "could not be synced")?,
+            FailedCall::Find => self.put_folder(f, "can't be found")?,
         }
         write!(f, ": {}", self.failure.error)
+    }
+}
+
+impl<'a> FailureText<'a> {
+    /// Writes the path of a file in the folder, and what failed.
+    fn put_file<W: Write>(&self, f: &mut Formatter<W>, file: SlotName, what: &str) -> fmt::Result {
+        write!(f, "{}/{file} {what}", Printable(self.folder))
+    }
+
+    /// Writes the path of the folder, and what failed.
+    fn put_folder<W: Write>(&self, f: &mut Formatter<W>, what: &str) -> fmt::Result {
+        write!(f, "{} {what}", Printable(self.folder))
     }
 }
