@@ -5,7 +5,7 @@ pub(crate) const STYLE_TEXT: &str = r#":root {
   --paper: #f6f3ec; --ink: #26221c; --faint: #6d665b; --line: #d9d2c4; --card: #fffdf8;
   --main: #1f6f54; --main-ink: #ffffff; --warn: #a63b1e;
   --frame: #5a3d28; --felt: #d9c9a8; --odd: #a9764a; --even: #efe3c8; --slot: #452d1d; --number: #e9dcc3;
-  --x: #fbf7ee; --x-edge: #6f675a; --o: #33373f; --o-edge: #0f1115; --goal: #1f8f66; --moved: #d28a1c;
+  --x: #33373f; --x-edge: #0f1115; --o: #fbf7ee; --o-edge: #6f675a; --goal: #1f8f66; --moved: #d28a1c;
   font: 16px/1.45 system-ui, -apple-system, "Segoe UI", sans-serif;
 }
 @media (prefers-color-scheme: dark) {
@@ -13,7 +13,7 @@ pub(crate) const STYLE_TEXT: &str = r#":root {
     --paper: #17191c; --ink: #ece8e0; --faint: #a19b90; --line: #34383d; --card: #1f2226;
     --main: #3fa27f; --main-ink: #08130f; --warn: #ff9a7a;
     --frame: #2b211a; --felt: #3a3f3c; --odd: #6d4a33; --even: #575f5a; --slot: #1b1511; --number: #b8ad99;
-    --x: #efe9dc; --x-edge: #8d8678; --o: #14161a; --o-edge: #8b93a1; --goal: #49c795; --moved: #f0b04a;
+    --x: #14161a; --x-edge: #8b93a1; --o: #efe9dc; --o-edge: #8d8678; --goal: #49c795; --moved: #f0b04a;
   }
 }
 * { box-sizing: border-box; }
@@ -95,14 +95,14 @@ td.number { font-size: inherit; }
 .checker.free { stroke: var(--goal); stroke-width: 3; }
 .checker.taken { stroke: var(--goal); stroke-width: 5; }
 .count { font-size: 15px; font-weight: 700; text-anchor: middle; }
-.count.X { fill: #26221c; }
-.count.O { fill: #f3efe6; }
+.count.X { fill: #f3efe6; }
+.count.O { fill: #26221c; }
 .borne.X { fill: var(--x); stroke: var(--x-edge); }
 .borne.O { fill: var(--o); stroke: var(--o-edge); }
 .die rect { fill: var(--x); stroke: var(--x-edge); stroke-width: 1.5; }
-.die circle { fill: #26221c; }
+.die circle { fill: #f3efe6; }
 .die.O rect { fill: var(--o); stroke: var(--o-edge); }
-.die.O circle { fill: #f3efe6; }
+.die.O circle { fill: #26221c; }
 .die.used { opacity: .3; }
 .cube rect { fill: #f7f4ec; stroke: #8a8273; stroke-width: 1.5; }
 .cube text { fill: #26221c; font-size: 17px; font-weight: 700; text-anchor: middle; }

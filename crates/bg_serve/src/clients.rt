@@ -1,6 +1,6 @@
 //! A client: a connection that starts with HTTP, and may become a WebSocket.
 
-use crate::exchanges::{answer_http, read_http, write_http};
+use crate::exchanges::{answer_http, explain, read_http, write_http};
 use crate::limits::{MOST_BODY, MOST_HEAD, MOST_READS, MOST_WRITES};
 use bg_site::{Caller, Channel, Peer, Site, Step, Store};
 use bg_world::Keeper;
@@ -13,6 +13,7 @@ use std::hash::RandomState;
 #[derive(Drop)]
 pub(crate) struct Client {
     alloc: Global,
+    keys: RandomState,
     pub(crate) stream: TcpStream,
     /// `None` once it is a WebSocket.
     http: Option<Box<Connection>>,
@@ -59,6 +60,7 @@ impl Client {
         let http = Box::new(alloc, Connection::new(alloc, keys, config()))?;
         Ok(Client {
             alloc,
+            keys,
             stream,
             http: Some(http),
             caller: Caller::UNKNOWN,
@@ -140,6 +142,7 @@ impl Client {
                 return Step::Gone;
             };
             answer_http(connection, site, &mut self.caller, &mut self.upgraded);
+            explain(self.alloc, self.keys, connection);
             if !connection.wants_read() {
                 break;
             }

@@ -1,11 +1,20 @@
 //! The exchange of requests and responses with an HTTP client.
 
+use crate::clients::config;
+use bg_pages::{add_common, refuse};
 use bg_site::{Caller, Peer, Site, Store};
 use bg_world::Keeper;
-use http_server::{Connection, State};
+use bytes::Bytes;
+use http::{Request, StatusCode};
+use http_server::{Connection, Reason, Response, Service, State};
 use mio::net::TcpStream;
+use std::alloc::{AllocError, Global};
+use std::hash::RandomState;
 use std::io;
 use std::io::ErrorKind;
+
+/// What stands for a request that was not read.
+const UNREAD: &[u8] = b"GET / HTTP/1.1\r\nhost: a\r\nconnection: close\r\n\r\n";
 
 /// The outcome of a read or a write.
 #[derive(Clone, Copy)]
@@ -76,5 +85,61 @@ pub(crate) fn answer_http<K: Keeper + Drop, S: Store<K> + Drop>(
     *caller = site.caller();
     if upgraded.is_none() && connection.state() == State::Upgraded {
         *upgraded = site.take_upgraded();
+    }
+}
+
+/// A service that answers every request that it is too long to be read.
+#[derive(Clone, Copy)]
+struct TooLong {
+    status: StatusCode,
+    why: &'static str,
+}
+
+impl TooLong {
+    /// Returns the service whose status an answer begins with; `None` if it has another status.
+    fn of(answer: &[u8]) -> Option<TooLong> {
+        let words = answer.strip_prefix(b"HTTP/1.1 ")?;
+        if words.starts_with(b"413") {
+            return Some(TooLong {
+                status: StatusCode::PAYLOAD_TOO_LARGE,
+                why: "a body has at most 4096 bytes: send a shorter one\n",
+            });
+        }
+        if words.starts_with(b"431") {
+            return Some(TooLong {
+                status: StatusCode::REQUEST_HEADER_FIELDS_TOO_LARGE,
+                why: "the head of a request has at most 8192 bytes and 64 headers: send fewer\n",
+            });
+        }
+        None
+    }
+}
+
+impl Service for TooLong {
+    ghost answers = { λ _ _ _ _. Unit {0} };
+
+    fn call(
+        &mut self,
+        _request: &Request<Bytes>,
+        response: &mut Response,
+    ) -> Result<(), AllocError> {
+        add_common(response)?;
+        refuse(response, self.status, self.why)
+    }
+}
+
+/// Says why a request was refused that is too long to be read, unless answers to earlier ones wait
+/// to be sent.
+pub(crate) fn explain(alloc: Global, keys: RandomState, connection: &mut Connection) {
+    let State::Closing(Reason::Refused(_)) = connection.state() else {
+        return;
+    };
+    let Some(mut too_long) = TooLong::of(connection.output()) else {
+        return;
+    };
+    let (mut told, mut unread) = (Connection::new(alloc, keys, config()), UNREAD);
+    if told.read_from(&mut unread).is_ok() {
+        told.advance(&mut too_long);
+        *connection = told;
     }
 }

@@ -5,7 +5,7 @@ use crate::save_counts::SaveCounts;
 use crate::seat_files::read_seats;
 use crate::served_files::ServedFiles;
 use crate::served_keepers::ServedKeeper;
-use bg_console::path_in;
+use bg_console::{FolderEntry, entries_in, path_in};
 use bg_dice::{digest_of, read_digest};
 use bg_match::{Record, Terms};
 use bg_processes::{Failures, FolderLock, NamedMatch, Names, read_secret};
@@ -14,9 +14,9 @@ use bg_stores::{TurnSaves, TurnSlots, forget_change, is_hidden, quiet_minutes, t
 use bg_wire::{REFEREE, SEAT_OF_O, SEAT_OF_X};
 use bg_world::Keepers;
 use std::alloc::AllocError;
+use std::io;
 use std::io::ErrorKind;
 use std::rc::Rc;
-use std::{fs, io};
 
 /// The folder of all matches.
 #[derive(Drop)]
@@ -25,12 +25,15 @@ pub struct FolderStore<'a> {
     pub(crate) folder: &'a str,
     failures: &'a Failures,
     counts: Rc<SaveCounts>,
+    /// Whether the last match could not be made.
+    pub(crate) is_unmade: bool,
     /// The place where the saves of a turn are gathered, if there is a database or a store.
     pub(crate) turn: Option<Rc<TurnSaves>>,
 }
 
 impl<'a> FolderStore<'a> {
-    /// Returns the store of the matches in a folder. Its keepers note their failures in `failures`.
+    /// Returns the store of the matches in a folder. Its keepers log their failures, which they note
+    /// in `failures`.
     ///
     /// # Errors
     /// `AllocError` if memory runs out.
@@ -44,6 +47,7 @@ impl<'a> FolderStore<'a> {
             folder,
             failures,
             counts: Rc::new(rt.alloc(), SaveCounts::new())?,
+            is_unmade: false,
             turn: None,
         })
     }
@@ -62,17 +66,12 @@ impl<'a> FolderStore<'a> {
         Ok((turn, self.counts.clone()?))
     }
 
-    /// Returns the names of all entries of the folder.
+    /// Returns the entries of the folder, sorted by name.
     ///
     /// # Errors
     /// The reason why it can't be read.
-    pub(crate) fn names(&self) -> io::Result<Vec<String>> {
-        let mut names = Vec::new(self.rt.alloc());
-        for entry in fs::read_dir(self.rt, self.folder)? {
-            names.push(String::from_str(self.rt.alloc(), entry?.file_name())?)?;
-        }
-        names.sort()?;
-        Ok(names)
+    pub(crate) fn entries(&self) -> io::Result<Vec<FolderEntry>> {
+        entries_in(self.rt, self.folder)
     }
 
     /// Finds the match of this name; returns `None` if there is none. Locks its folder if other
@@ -208,10 +207,9 @@ impl<'a> FolderStore<'a> {
 
 impl<'a> Store<ServedKeeper<'a>> for FolderStore<'a> {
     fn make(&mut self, terms: Terms, names: Names) -> Option<Made<ServedKeeper<'a>>> {
-        match self.try_make(terms, names) {
-            Ok(made) => Some(made),
-            Err(_) => None,
-        }
+        let made = self.try_make(terms, names);
+        self.tell_making(made.as_ref().err());
+        made.ok()
     }
 
     fn load(&self, name: &str) -> Option<Record> {

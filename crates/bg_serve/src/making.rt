@@ -3,10 +3,10 @@
 use crate::folders::FolderStore;
 use crate::seat_files::{random_digits, write_seats};
 use crate::served_keepers::ServedKeeper;
-use bg_console::path_in;
+use bg_console::{path_in, say};
 use bg_dice::{digest_of, write_digest};
 use bg_match::Terms;
-use bg_processes::{MatchFile, NamedMatch, Names, make_secret, read_secret};
+use bg_processes::{MatchFile, NamedMatch, Names, Printable, make_secret, read_secret};
 use bg_site::{Found, Made, Seats};
 use std::fs::{DirBuilder, File};
 use std::io;
@@ -32,6 +32,21 @@ impl<'a> FolderStore<'a> {
         let (x, o) = (random_digits(self.rt, 16)?, random_digits(self.rt, 16)?);
         let found = self.make_found(x.as_str(), o.as_str(), terms, names)?;
         Ok(Made { found, x, o })
+    }
+
+    /// Logs why a match could not be made, unless the last one could not be made either.
+    pub(crate) fn tell_making(&mut self, fault: Option<&io::Error>) {
+        let was_unmade = self.is_unmade;
+        self.is_unmade = fault.is_some();
+        if let (Some(error), false) = (fault, was_unmade) {
+            let shown = Printable(self.folder);
+            say(
+                self.rt,
+                format_args!(
+                    "no match can be made in {shown}: {error}; make room there, or let it write there: it need not be started again"
+                ),
+            );
+        }
     }
 
     /// Makes a match whose seats have the secrets `x` and `o`.

@@ -3,13 +3,14 @@
 use crate::database_words::settle_first;
 use crate::tables::{Tables, check_of_all};
 use bg_board::Player;
-use bg_console::{check_folder, failed_at, failed_for, say, written, wrong};
+use bg_console::{check_folder, check_out_folder, failed_at, failed_for, say, written, wrong};
 use bg_options::{ManageOptions, Management};
 use bg_processes::{FolderLock, Printable};
 use bg_reports::Ending;
 use std::fs::TryLockError;
 use std::io;
 use std::io::ErrorKind;
+use std::path::Path;
 
 /// The message if the options name nothing to do, or more than one thing.
 const NOTHING: &str =
@@ -147,6 +148,10 @@ fn tell_server(rt: &HostRuntime, tables: Tables<'_>, name: &str) -> Result<(), E
 
 /// Copies all matches into a new folder.
 fn back_up(rt: &HostRuntime, tables: Tables<'_>, out: &str) -> Result<Ending, Ending> {
+    match Path::new(out).parent() {
+        Some(above) if !above.as_str().is_empty() => check_out_folder(rt, above.as_str())?,
+        _ => {}
+    }
     match tables.back_up(out) {
         Ok(count) => {
             written(rt, println!(rt; "matches copied: {count}"))?;

@@ -9,7 +9,7 @@ use crate::settling::{CLUSTER, Unusable};
 use crate::sharing::run_shared;
 use crate::sockets::Sockets;
 use crate::tables::check_of_all;
-use bg_console::{failed, failed_or, own_folder, say, say_failures};
+use bg_console::{failed, failed_or, own_folder, say};
 use bg_options::ServeOptions;
 use bg_processes::{Failures, Printable};
 use bg_reports::Ending;
@@ -47,7 +47,7 @@ fn run_owned(
         Ok((mut server, mut database)) => {
             set_up(&mut server, &options);
             tell_begin(rt, &server);
-            go_on(rt, &mut server, &mut database, options, failures)
+            go_on(rt, &mut server, &mut database, options)
         }
         Err(why) => Err(not_begun(rt, options.port, words, why)),
     }
@@ -107,7 +107,6 @@ fn go_on(
     server: &mut Server<'_>,
     database: &mut Option<Box<Database<'_>>>,
     options: ServeOptions<'_>,
-    failures: &Failures,
 ) -> Result<Ending, Ending> {
     for _ in 0..u64::MAX {
         let made = match database {
@@ -116,7 +115,7 @@ fn go_on(
             }
             None => take_turn_alone(rt, server)?,
         };
-        tell_turn(rt, server, made, options.folder, failures);
+        tell_turn(rt, server, made);
     }
     Ok(Ending::Served)
 }
@@ -143,17 +142,10 @@ fn take_turn_alone(rt: &HostRuntime, server: &mut Server<'_>) -> Result<u64, End
 }
 
 /// Ends a turn whose saves are all durable: logs its results, such as the number of matches made.
-pub(crate) fn tell_turn(
-    rt: &HostRuntime,
-    server: &mut Server<'_>,
-    made: u64,
-    folder: &str,
-    failures: &Failures,
-) {
+pub(crate) fn tell_turn(rt: &HostRuntime, server: &mut Server<'_>, made: u64) {
     server.forget_changes();
     tell_counts(rt, made, server.ended(), server.changed());
     tell_requests(rt, server);
-    say_failures(rt, failures, folder);
 }
 
 /// Commits the saves of a turn, and retries until that succeeds. Logs failures, and tells clients

@@ -1,6 +1,7 @@
 //! The files of a party of a served match.
 
 use crate::save_counts::{SaveCounts, micros_since};
+use bg_console::say_failures;
 use bg_processes::{Failures, FileKeeper};
 use bg_stores::TurnSlots;
 use bg_wire::Slot;
@@ -10,18 +11,22 @@ use std::rc::Rc;
 use std::time::Instant;
 
 /// The files of a party in the folder of a match. If there is a database, saves go to the turn, and
-/// the files are written later. Saves are counted and timed.
+/// the files are written later. Saves are counted and timed, and failures of the files are logged.
 #[derive(Drop)]
 pub(crate) struct ServedFiles<'a> {
     rt: &'a HostRuntime,
     file: FileKeeper<'a, HostRuntime>,
+    /// The failures of the files of all matches. Each call leaves none there.
+    failures: &'a Failures,
+    /// The path of the folder, by which failures are logged.
+    folder: String,
     turn: Option<TurnSlots>,
     counts: Rc<SaveCounts>,
 }
 
 impl<'a> ServedFiles<'a> {
-    /// Returns the files of a party in the folder of a match, without opening them. Their failures
-    /// are noted in `failures`.
+    /// Returns the files of a party in the folder of a match, without opening them. They share
+    /// `failures` with those of other matches.
     ///
     /// # Errors
     /// `AllocError` if memory runs out.
@@ -36,6 +41,8 @@ impl<'a> ServedFiles<'a> {
         Ok(ServedFiles {
             rt,
             file: FileKeeper::new(rt, folder, party, failures)?,
+            failures,
+            folder: String::from_str(rt.alloc(), folder)?,
             turn,
             counts,
         })
@@ -50,6 +57,7 @@ impl<'a> ServedFiles<'a> {
         };
         self.counts
             .note(result.is_ok(), micros_since(self.rt, begun));
+        say_failures(self.rt, self.failures, self.folder.as_str());
         result
     }
 
@@ -60,6 +68,8 @@ impl<'a> ServedFiles<'a> {
                 return Ok(text);
             }
         }
-        self.file.read(slot)
+        let result = self.file.read(slot);
+        say_failures(self.rt, self.failures, self.folder.as_str());
+        result
     }
 }

@@ -117,12 +117,9 @@ impl<'a> Server<'a> {
     /// Opens the matches of the folder. Skips entries that aren't matches, and leaves out matches
     /// that can't be served.
     fn open_all(&mut self) -> io::Result<()> {
-        for name in self.store().names()? {
-            if !is_name(name.as_str()) {
-                continue;
-            }
-            if !self.open(name.as_str())? {
-                self.left_out.push(name)?;
+        for entry in self.store().entries()? {
+            if is_name(entry.name.as_str()) && !self.open(entry.name.as_str())? {
+                self.left_out.push(entry.name)?;
             }
         }
         Ok(())

@@ -49,7 +49,7 @@ pub(crate) fn run_shared<'a>(
             };
             set_up(&mut server, options);
             begin(&mut shared, &mut server)?;
-            go_on(&mut shared, &mut server, options.folder, failures)
+            go_on(&mut shared, &mut server)
         }
         Err(why) => Err(not_joined(rt, options.folder, words, &why)),
     }
@@ -79,15 +79,10 @@ fn begin(shared: &mut Shared<'_>, server: &mut Server<'_>) -> Result<(), Ending>
 }
 
 /// Runs the turns of a server.
-fn go_on(
-    shared: &mut Shared<'_>,
-    server: &mut Server<'_>,
-    folder: &str,
-    failures: &Failures,
-) -> Result<Ending, Ending> {
+fn go_on(shared: &mut Shared<'_>, server: &mut Server<'_>) -> Result<Ending, Ending> {
     for _ in 0..u64::MAX {
         let made = take_turn(shared, server)?;
-        tell_turn(shared.rt, server, made, folder, failures);
+        tell_turn(shared.rt, server, made);
         shared.tell_long();
     }
     Ok(Ending::Served)

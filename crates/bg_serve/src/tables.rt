@@ -2,7 +2,7 @@
 
 use crate::seat_files::{random_digits, read_seats, replace_seat};
 use bg_board::Player;
-use bg_console::{allocated, path_in, wrong_at};
+use bg_console::{allocated, entries_in, path_in, wrong_at};
 use bg_processes::{NamedMatch, Names};
 use bg_reports::Ending;
 use bg_requests::is_name;
@@ -153,13 +153,11 @@ impl<'a> Tables<'a> {
     /// Returns the names of the matches in a folder.
     pub(crate) fn names_in(&self, folder: &str) -> io::Result<Vec<String>> {
         let mut names = Vec::new(self.rt.alloc());
-        for entry in fs::read_dir(self.rt, folder)? {
-            let name = String::from_str(self.rt.alloc(), entry?.file_name())?;
-            if self.is_kept_in(folder, name.as_str())? {
-                names.push(name)?;
+        for entry in entries_in(self.rt, folder)? {
+            if self.is_kept_in(folder, entry.name.as_str())? {
+                names.push(entry.name)?;
             }
         }
-        names.sort()?;
         Ok(names)
     }
 }

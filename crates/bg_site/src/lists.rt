@@ -24,12 +24,13 @@ pub(crate) enum List {
 }
 
 impl List {
-    /// Returns the list with this name; the list of live matches if it names no other.
-    fn named(name: Option<&str>) -> List {
+    /// Returns the list with this name; by default that of live matches.
+    fn named(name: Option<&str>) -> Option<List> {
         match name {
-            Some("finished") => List::Finished,
-            Some("idle") => List::Idle,
-            _ => List::Live,
+            None | Some("live") => Some(List::Live),
+            Some("idle") => Some(List::Idle),
+            Some("finished") => Some(List::Finished),
+            Some(_) => None,
         }
     }
 
@@ -63,16 +64,20 @@ pub(crate) struct Wanted<'a> {
 }
 
 impl<'a> Wanted<'a> {
-    /// Returns what a query such as `list=finished&page=N` asks for. `search` is the text that it
-    /// searches for, in lower case.
-    pub(crate) fn of(query: Option<&str>, search: &'a str, patience: Patience) -> Wanted<'a> {
-        Wanted {
-            list: List::named(query_part(query, "list")),
+    /// Returns what a query such as `list=finished&page=N` asks for; `None` if there is no such list
+    /// or page. `search` is the text that it searches for, in lower case.
+    pub(crate) fn of(
+        query: Option<&str>,
+        search: &'a str,
+        patience: Patience,
+    ) -> Option<Wanted<'a>> {
+        Some(Wanted {
+            list: List::named(query_part(query, "list"))?,
             patience,
-            before: pages_before(query_part(query, "page")),
+            before: pages_before(query_part(query, "page"))?,
             search,
             is_oldest_first: false,
-        }
+        })
     }
 
     /// Returns the same, with the least recently changed matches first, so that a full page stays
@@ -110,10 +115,10 @@ impl<'a> Wanted<'a> {
 }
 
 /// Returns the number of pages before the page with this number, which counts from 1.
-fn pages_before(digits: Option<&str>) -> u32 {
+fn pages_before(digits: Option<&str>) -> Option<u32> {
     match digits.unwrap_or("1").parse::<u32>() {
-        Ok(page) => page.saturating_sub(1),
-        Err(_) => 0,
+        Ok(page) => page.checked_sub(1),
+        Err(_) => None,
     }
 }
 

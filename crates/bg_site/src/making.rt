@@ -23,7 +23,8 @@ use http_server::Response;
 use std::alloc::{AllocError, Global};
 
 impl<K: Keeper + Drop, S: Store<K> + Drop> Site<K, S> {
-    /// Answers with a page of the list of matches, or with an archive of the matches on it.
+    /// Answers with a page of the list of matches, or with an archive of the matches on it. Refuses a
+    /// query with other values than it may have.
     pub(crate) fn list(
         &self,
         request: &Request<Bytes>,
@@ -34,13 +35,18 @@ impl<K: Keeper + Drop, S: Store<K> + Drop> Site<K, S> {
         let search = form_urlencoded::decode(self.alloc, search.as_bytes())?;
         let search = search.as_str().to_lowercase(self.alloc)?;
         let wanted = Wanted::of(query, search.as_str(), self.patience);
-        match query_part(query, "form") {
-            Some("transcript") => self.archive(wanted, Asked::Transcript, response),
-            Some("mat") => self.archive(wanted, Asked::Mat, response),
-            _ => {
+        match (wanted, query_part(query, "form")) {
+            (Some(wanted), Some("transcript")) => self.archive(wanted, Asked::Transcript, response),
+            (Some(wanted), Some("mat")) => self.archive(wanted, Asked::Mat, response),
+            (Some(wanted), None) => {
                 let text = list_text(self.alloc, &self.places, &wanted)?;
                 answer_text(response, Kind::Json, text)
             }
+            _ => refuse(
+                response,
+                StatusCode::BAD_REQUEST,
+                "list is live, idle or finished, page a number from 1 on, form transcript or mat\n",
+            ),
         }
     }
 

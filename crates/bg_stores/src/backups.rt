@@ -1,6 +1,6 @@
 //! Copies of whole matches, even while they are being played.
 
-use bg_console::path_in;
+use bg_console::{entries_in, path_in};
 use bg_processes::{MatchFile, read_saved};
 use bg_wire::{REFEREE, SEAT_OF_O, SEAT_OF_X, restore};
 use std::fs::{DirBuilder, File, OpenOptions};
@@ -43,14 +43,10 @@ pub fn copy_match(rt: &HostRuntime, from: &str, to: &str) -> io::Result<()> {
 /// Copies the files of a folder. The slots of seats are copied before those of the referee, so that
 /// the referee's copy has everything that a seat's copy has.
 fn copy_files(rt: &HostRuntime, from: &str, to: &str) -> io::Result<()> {
-    let mut names = Vec::new(rt.alloc());
-    for entry in fs::read_dir(rt, from)? {
-        names.push(String::from_str(rt.alloc(), entry?.file_name())?)?;
-    }
-    names.sort()?;
-    for name in names.iter().rev() {
-        if !name.as_str().ends_with(".new") {
-            copy_file(rt, from, to, name.as_str())?;
+    for entry in entries_in(rt, from)?.iter().rev() {
+        let name = entry.name.as_str();
+        if !name.ends_with(".new") {
+            copy_file(rt, from, to, name)?;
         }
     }
     Ok(())

@@ -3,7 +3,7 @@
 //! renames the marks that it finds, and reads their matches again. It removes a mark once it has
 //! saved what it read. So after a kill, the next server reads the match again.
 
-use bg_console::path_in;
+use bg_console::{entries_in, path_in};
 use mio::{Events, Poll};
 use std::alloc::{AllocError, Global};
 use std::fs::{DirBuilder, OpenOptions};
@@ -38,12 +38,12 @@ const BETWEEN_LOOKS: u64 = 50;
 pub fn take_changes(rt: &HostRuntime, tables: &str) -> io::Result<Vec<String>> {
     let folder = path_in(rt.alloc(), tables, CHANGES)?;
     let mut names: Vec<String> = Vec::new(rt.alloc());
-    let entries = match fs::read_dir(rt, folder.as_str()) {
+    let entries = match entries_in(rt, folder.as_str()) {
         Err(error) if error.kind() == ErrorKind::NotFound => return Ok(names),
         entries => entries?,
     };
-    for entry in entries {
-        let name = take_change(rt, folder.as_str(), entry?.file_name())?;
+    for entry in &entries {
+        let name = take_change(rt, folder.as_str(), entry.name.as_str())?;
         if names.iter().all(|other| other.as_str() != name.as_str()) {
             names.push(name)?;
         }

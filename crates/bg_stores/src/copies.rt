@@ -3,7 +3,7 @@
 use crate::changes::is_changed;
 use crate::followers::overwrite;
 use crate::marks::{hide, is_hidden, show};
-use bg_console::path_in;
+use bg_console::{entries_in, path_in};
 use bg_etcd::File;
 use bg_requests::is_name;
 use bg_wire::{LoadFault, load};
@@ -168,12 +168,11 @@ impl<'a> Copies<'a> {
     /// # Errors
     /// The reason why the folder can't be read.
     pub fn names(&self) -> io::Result<Vec<String>> {
-        let alloc = self.rt.alloc();
-        let mut names = Vec::new(alloc);
-        for entry in fs::read_dir(self.rt, self.folder)? {
-            let name = String::from_str(alloc, entry?.file_name())?;
-            if is_name(name.as_str()) && self.has_seats(name.as_str())? {
-                names.push(name)?;
+        let mut names = Vec::new(self.rt.alloc());
+        for entry in entries_in(self.rt, self.folder)? {
+            let name = entry.name.as_str();
+            if is_name(name) && self.has_seats(name)? {
+                names.push(entry.name)?;
             }
         }
         Ok(names)

@@ -6,7 +6,7 @@ pub(crate) const TEXT: &str = r#"
 let socket = null, isGreeted = false, pause = 500, beat = null, late = null;
 
 // So many milliseconds an answer may take, and so many entries a match may have, before the page
-// says so; and so often a seat may be refused before it is given up.
+// says so; and so often a seat or a match may be refused before it is given up.
 const LATE = 3000, LONG = 40000, REFUSALS = 6;
 
 const isPlayer = () => location.pathname === '/play';
@@ -16,16 +16,21 @@ function socketAddress() {
   return isPlayer() ? base + '/play/live' : base + location.pathname.replace(/\/embed$/, '') + '/live';
 }
 
+// Whether the server answers that it has no such match.
+const isMissing = () => fetch(location.pathname.replace(/\/embed$/, '') + '/state')
+  .then(answer => answer.status === 404, () => false);
+
 function connect() {
   socket = new WebSocket(socketAddress());
   isGreeted = false;
   socket.onopen = () => { if (isPlayer()) socket.send('hello ' + game.secret); };
   socket.onmessage = event => hear(JSON.parse(event.data));
-  socket.onclose = () => {
+  socket.onclose = async () => {
     netSays('away, trying again', 'gone');
     clearTimeout(beat);
     clearTimeout(late);
-    if (game.refused) return netSays('no such seat', 'gone');
+    if (!isPlayer() && !isGreeted && await isMissing()) hearNoMatch();
+    if (game.refused) return netSays(isPlayer() ? 'no such seat' : 'no such match', 'gone');
     beat = setTimeout(connect, pause);
     pause = Math.min(pause * 2, 8000);
   };
@@ -62,12 +67,22 @@ function hear(message) {
 // Another server may have made the match, or a new link, a moment ago: it is asked for again. A page
 // that had its seat may have lost it: the link was replaced, or the match deleted.
 function hearNoSeat() {
-  game.refusals++;
-  pause = 2000;
-  game.refused = game.refusals >= REFUSALS;
+  countRefusal();
   const since = game.match ? ' any more' : game.refused ? '' : ' yet';
   say(`This link is no seat of a match here${since}${game.refused ? '' : ', trying again'}.`);
   draw();
+}
+
+// The match that one watches was deleted. It is asked for again, as it may be restored.
+function hearNoMatch() {
+  countRefusal();
+  say(`This match is not here any more${game.refused ? '' : ', trying again'}.`);
+}
+
+function countRefusal() {
+  game.refusals++;
+  pause = 2000;
+  game.refused = game.refusals >= REFUSALS;
 }
 
 function hearGreeting(message) {
