@@ -7,7 +7,7 @@ use crate::attempts::done_at;
 use crate::batches::beside::{bytes_beside, headers_beside, keep_headers};
 use crate::batches::targets::{NameEndings, check_targets, target_of};
 use crate::inputs::{check_name, file_bytes, match_file_text, transcript_as_match_file};
-use bg_console::{Progress, allocated, check_out_folder, say, wrong_at};
+use bg_console::{Progress, allocated, check_out_file, check_out_folder, say, wrong_at};
 use bg_match::Rules;
 use bg_options::{BatchOptions, HeaderOptions};
 use bg_reports::{Ending, Tally};
@@ -114,7 +114,7 @@ fn write_one(
     put_file(rt, target.as_str(), &text, batch.is_forced)
 }
 
-/// Writes a file, whole. Refuses one that exists, unless it may be overwritten.
+/// Writes a file, whole. Refuses one that exists, unless it may be overwritten, and what is no file.
 pub(crate) fn put_file(
     rt: &HostRuntime,
     path: &str,
@@ -124,5 +124,6 @@ pub(crate) fn put_file(
     if !is_forced && fs::metadata(rt, path).is_ok() {
         return Err(wrong_at(rt, path, " exists: --force overwrites it"));
     }
+    check_out_file(rt, path)?;
     done_at(rt, path, " could not be written", publish(rt, path, bytes))
 }

@@ -2,15 +2,21 @@
 
 use crate::inputs::check_name;
 use crate::saved_files::{saved_bytes, slots_of};
-use bg_console::{allocated, check_folder, path_in, print_text, say};
+use bg_console::{allocated, check_folder, path_in, print_text, say, say_of, wrong_at};
 use bg_options::ShowOptions;
 use bg_reports::{Ending, SlotBytes, folder_text, party_text, restored_transcript, show_text};
 use bg_wire::{REFEREE, SEAT_OF_O, SEAT_OF_X};
 use std::alloc::{AllocError, Global};
 use std::fs;
+use std::io::ErrorKind;
 
 /// The message behind the name of a file that is shown alone.
 const NO_FOLDER: &str = " is no folder: name the two files of a party, or a folder";
+
+/// The messages behind the name of what isn't there, shown alone or as a file of a party.
+const NOT_THERE: &str = " is not there: name the two files of a party, or a folder";
+
+const COUNTS_AS_EMPTY: &str = " is not there, and counts as empty: name a file that is there";
 
 /// Shows the saved files that the options name.
 pub fn run(rt: &HostRuntime, options: ShowOptions<'_>) -> Result<Ending, Ending> {
@@ -33,7 +39,27 @@ fn show_files(rt: &HostRuntime, path0: &str, path1: &str) -> Result<Ending, Endi
     let shown = show_text(rt.alloc(), &slots.zero, &slots.one);
     let (text, loads) = allocated(rt, shown)?;
     print_text(rt, &text)?;
+    if !loads {
+        say_missing(rt, path0, path1);
+    }
     Ok(Ending::Shown { loads })
+}
+
+/// Reports which of the two files of a party aren't there.
+fn say_missing(rt: &HostRuntime, path0: &str, path1: &str) {
+    for path in [path0, path1] {
+        if is_missing(rt, path) {
+            say_of(rt, path, COUNTS_AS_EMPTY);
+        }
+    }
+}
+
+/// Returns whether nothing is at a path.
+fn is_missing(rt: &HostRuntime, path: &str) -> bool {
+    match fs::metadata(rt, path) {
+        Ok(_) => false,
+        Err(error) => error.kind() == ErrorKind::NotFound,
+    }
 }
 
 /// Reads the bytes of the two files of a party.
@@ -55,7 +81,10 @@ fn print_transcript(rt: &HostRuntime, path0: &str, path1: &str) -> Result<Ending
             print_text(rt, &text)?;
             Ok(Ending::Shown { loads: true })
         }
-        None => say_slots(rt, &slots),
+        None => {
+            say_missing(rt, path0, path1);
+            say_slots(rt, &slots)
+        }
     }
 }
 
@@ -71,6 +100,9 @@ fn say_slots(rt: &HostRuntime, slots: &SlotBytes) -> Result<Ending, Ending> {
 /// Shows the files of the parties in a folder. Shows the referee's alone where its seats have their
 /// own folders.
 fn show_folder(rt: &HostRuntime, folder: &str) -> Result<Ending, Ending> {
+    if is_missing(rt, folder) {
+        return Err(wrong_at(rt, folder, NOT_THERE));
+    }
     check_folder(rt, folder, NO_FOLDER)?;
     let parties = parties_in(rt, folder)?;
     let (text, loads) = allocated(rt, parties.report(rt.alloc()))?;

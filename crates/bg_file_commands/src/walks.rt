@@ -1,6 +1,6 @@
 //! The files below a folder.
 
-use bg_console::{not_memory, without_slashes};
+use bg_console::{entries_in, not_memory, path_in, without_slashes};
 use std::alloc::Global;
 use std::io::ErrorKind;
 use std::rt::Files;
@@ -78,20 +78,14 @@ fn add_content(
     files: &mut Vec<Place>,
     folders: &mut Vec<String>,
 ) -> io::Result<()> {
-    for found in fs::read_dir(&rt, folder)? {
-        let found = match found {
-            Ok(found) => found,
-            Err(error) if error.kind() == ErrorKind::InvalidFilename => continue,
-            Err(error) => return Err(error),
-        };
-        let Ok(kind) = found.file_type() else {
+    for found in entries_in(rt, folder)?.iter() {
+        let Some(kind) = found.kind else {
             continue;
         };
-        let path = found.path();
-        if is_hidden(path.as_str()) {
+        if found.name.as_str().starts_with('.') {
             continue;
         }
-        let path = String::from_str(rt.alloc(), path.as_str())?;
+        let path = path_in(rt.alloc(), folder, found.name.as_str())?;
         if kind.is_dir() {
             folders.push(path)?;
         } else if kind.is_file() || kind.is_symlink() && leads_to_file(rt, path.as_str()) {
@@ -106,13 +100,5 @@ fn leads_to_file(rt: &HostRuntime, path: &str) -> bool {
     match fs::metadata(rt, path) {
         Ok(found) => found.is_file(),
         Err(_) => true,
-    }
-}
-
-/// Returns whether the last part of a path begins with a dot.
-fn is_hidden(path: &str) -> bool {
-    match path.rsplit_once('/') {
-        Some((_, name)) => name.starts_with('.'),
-        None => path.starts_with('.'),
     }
 }

@@ -32,7 +32,8 @@ const ROUNDS_OF_LOOK: u64 = 10;
 const ROUNDS_OF_SEARCH: u64 = 100;
 
 /// Keeps pages of the matches in the folders that the options name, and below them, and of those
-/// whose key files they name. Ends only if it is to write them once, or if it fails.
+/// whose key files they name. Ends only if it is to write them once, or if it fails. Fails in the
+/// end if a folder could not be read.
 pub fn run(rt: &HostRuntime, options: BoardOptions<'_, '_>) -> Result<Ending, Ending> {
     if options.places.contains(&"") || options.out.is_empty() {
         return Err(wrong(rt, "the name of a folder is empty"));
@@ -42,6 +43,9 @@ pub fn run(rt: &HostRuntime, options: BoardOptions<'_, '_>) -> Result<Ending, En
     let mut search = Search::new(rt, &failures, options.places, options.is_once);
     let mut matches = Vec::new(rt.alloc());
     keep(rt, &options, &failures, &mut search, &mut matches)?;
+    if search.has_unread {
+        return Ok(Ending::Failed);
+    }
     Ok(Ending::Told)
 }
 

@@ -9,8 +9,8 @@ use crate::watch::showing::{Lines, Showing};
 use crate::watchers::{NoWatcher, Watcher, begin_watcher};
 use bg_command_parts::{Audience, FailureReporter, Logbook, SilenceReporter, no_socket};
 use bg_console::{
-    Outputs, Published, Telling, Terminal, failed, key_file_of, page_words, title_of, waited,
-    waiting_for, wrong_at,
+    Outputs, Published, Telling, Terminal, check_out_file, failed, key_file_of, page_words,
+    title_of, waited, waiting_for, wrong_at,
 };
 use bg_options::WatchOptions;
 use bg_processes::{Failures, Going, Liveness, MatchFile, Ticking, Waiting};
@@ -93,13 +93,17 @@ fn audience_of(is_quiet: bool, is_watched: bool, is_drawn: bool) -> Audience {
     }
 }
 
-/// Refuses one file for two of the outputs, where each would replace the other.
+/// Refuses an output that is no regular file, and one file for two of the outputs, where each would
+/// replace the other.
 fn check_outputs(
     rt: &HostRuntime,
     board: Option<&str>,
     transcript: Option<&str>,
     page: Option<&str>,
 ) -> Result<(), Ending> {
+    for path in [board, transcript, page] {
+        check_out_file(rt, path.unwrap_or_default())?;
+    }
     for pair in [(board, transcript), (board, page), (transcript, page)] {
         let (Some(one), Some(other)) = pair else {
             continue;

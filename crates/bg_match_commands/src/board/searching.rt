@@ -43,6 +43,8 @@ pub(crate) struct Search<'a, 'm, 's> {
     reports: Reports<'a>,
     /// Whether the current run has found another match, or one that is gone or changed.
     is_changed: bool,
+    /// Whether a folder could not be read.
+    pub(crate) has_unread: bool,
 }
 
 impl<'a, 'm, 's> Search<'a, 'm, 's> {
@@ -60,6 +62,7 @@ impl<'a, 'm, 's> Search<'a, 'm, 's> {
             is_once,
             reports: Reports::new(rt),
             is_changed: false,
+            has_unread: false,
         }
     }
 
@@ -119,6 +122,7 @@ impl<'a, 'm, 's> Search<'a, 'm, 's> {
                 self.meet_key_file(searched, allocated(self.rt, path)?.as_str(), matches)
             }
             Finding::Unread(error) => {
+                self.has_unread = true;
                 if self.reports.is_news(folder)? {
                     say_why(self.rt, folder, " can't be read", error);
                 }
