@@ -1,10 +1,11 @@
-"""Pages of players who lose their seats while they look at them, and what keys of the keyboard do there."""
+"""Pages of players who lose their seats while they look at them, and of watchers; and what keys of the keyboard do there."""
 from browsing.looking import fits, stopped, wait_live
 from counting import right
 from serving.asking import state_of
 from serving.operators import manage
 
-NO_SEAT = "This link is no seat of a match here any more."
+NO_SEAT = ("This link is no seat of a match here any more.", "no such seat")
+NO_MATCH = ("This match is not here any more.", "no such match")
 # Notes when the page opens a socket.
 NOTE_SOCKETS = """void (times = [], WebSocket = class extends WebSocket {
     constructor(address) { super(address); times.push(performance.now()); }
@@ -12,18 +13,19 @@ NOTE_SOCKETS = """void (times = [], WebSocket = class extends WebSocket {
 
 
 def lose_seats(server, browser, size):
-    """A page whose link is replaced, and one whose match is deleted, ask some times more and then say that they have no
-    seat."""
+    """A page whose link is replaced, and a player's and a watcher's whose match is deleted, ask some times more and then say
+    that they have no seat, or no match."""
     pages = {}
-    for change in (("--new-link", "X"), ("--delete",)):
+    for link, told, change in (("x", NO_SEAT, ("--new-link", "X")), ("x", NO_SEAT, ("--delete",)),
+                               ("watch", NO_MATCH, ("--delete",))):
         made = server.make(length=1)
-        page = pages[change] = browser.page(server.url(made["x"]), *size)
+        page = pages[change, told] = browser.page(server.url(made[link]), *size)
         wait_live(page)
         page.run(NOTE_SOCKETS)
         right(manage(server, "--match", made["match"], *change)[0] == 0, f"manage {change}")
-    for change, page in pages.items():
-        page.wait(f"document.getElementById('say').textContent === '{NO_SEAT}'")
-        page.wait("document.getElementById('net').textContent === 'no such seat'")
+    for (change, (said, short)), page in pages.items():
+        page.wait(f"document.getElementById('say').textContent === '{said}'")
+        page.wait(f"document.getElementById('net').textContent === '{short}'")
         pauses = page.run("times.slice(1).map((time, index) => time - times[index])")
         right(len(pauses) == 5 and min(pauses) > 1900, f"after {change} a page asks again after {pauses} ms")
         right(not page.run("!!document.querySelector('#acts button')"), f"after {change} a page lets one act")

@@ -62,6 +62,10 @@ try_refused_batches() {
     check "a folder that is none" 2 "" "bg_relay: good is no folder" import --out good named.mat
     check "a folder that is missing, for match files" 2 "" "bg_relay: nowhere is missing: make it first" \
         import --out nowhere named.mat
+    mkfifo out/ada.txt
+    check "a pipe in place of a file" 2 "" "bg_relay: out/ada.txt is no regular file: name another one" \
+        import --force --out out ada.mat
+    rm out/ada.txt
     local match_file="bg_relay: it is a match file, of which \`import\` makes a transcript"
     cp named.mat "$work/stdin"
     check "a match file in place of a transcript" 2 "" "$match_file" export

@@ -30,10 +30,10 @@ longest() {
         printf "$2$turn$3"
         yes "$(printf "$turn")" | head -n "$4" | tr -d '\n'
     } > "$work/longest"
-    check "the longest text of version $1" 2 "file 0: illegal entry 1" "" show "$work/longest" "$work/missing"
+    check "the longest text of version $1" 2 "file 0: illegal entry 1" "$work/missing is not there" show "$work/longest" "$work/missing"
     for more in one two; do
         printf '\x00' >> "$work/longest"
-        check "more bytes, $more, in version $1" 2 "file 0: extra bytes" "" show "$work/longest" "$work/missing"
+        check "more bytes, $more, in version $1" 2 "file 0: extra bytes" "$work/missing is not there" show "$work/longest" "$work/missing"
     done
 }
 
@@ -50,12 +50,15 @@ try_long_saves() {
     check "a full record" 0 "file 0: party 0 match 1 length 3 save 1 entries 1000000" "" show "$work/full" "$work/missing"
     truncate -s 1G "$work/longest"
     run_in_little_memory show "$work/longest" "$work/missing"
-    judge_run "a file of a gigabyte" "$status" 2 "file 0: extra bytes" ""
+    judge_run "a file of a gigabyte" "$status" 2 "file 0: extra bytes" "$work/missing is not there"
 }
 
 # try_unread_saves (what does not load, and what is no file)
 try_unread_saves() {
-    check "no file that loads" 2 "file 1: bad magic" "" show "$work/missing" "$work/other"
+    check "no file that loads" 2 "file 1: bad magic" "not there" show "$work/missing" "$work/other"
+    said "no file that loads" "bg_relay: $work/missing is not there, and counts as empty: name a file that is there"
+    : > "$work/no-byte"
+    check "an empty file" 2 "file 0: short" "" show "$work/no-byte" "$work/other"
     check "a folder as a file" 1 "" "$work could not be read: " show "$work" "$work/save"
     check "a folder as the second file" 1 "" "$work could not be read: " show "$work/save" "$work"
     check "a file behind a file" 1 "" "$work/save/more could not be read: " show "$work/save/more" "$work/save"
@@ -89,7 +92,9 @@ try_saved_transcripts() {
     same "the transcript of a saved file of version 1" "$work/expected"
     check "the transcript of no file that loads" 2 "" "bg_relay: file 1: bad magic" \
         show --transcript "$work/missing" "$work/other"
-    said "the transcript of no file that loads" "bg_relay: file 0: short" "bg_relay: file 1: bad magic"
+    said "the transcript of no file that loads" \
+        "bg_relay: $work/missing is not there, and counts as empty: name a file that is there" \
+        "bg_relay: file 0: short" "bg_relay: file 1: bad magic"
     check "the transcript of a folder" 2 "" "required" show --transcript "$work"
     check "the transcript of a folder as a file" 1 "" "$work could not be read: " show --transcript "$work" "$work/save"
     check "the transcript of an empty name" 2 "" "bg_relay: the name of a file is empty" show --transcript "$work/save" ""
@@ -115,7 +120,7 @@ END
     check_lines "a folder without saved files" 2 show "$work/nothing"
     mkdir "$work/nothing/party-1.1"
     check "a folder as one of six files" 1 "" "bg_relay: $work/nothing/party-1.1 could not be read: " show "$work/nothing"
-    check "a folder that is missing, to show" 2 "" "bg_relay: $work/none is no folder: name the two files of a party" \
+    check "what is missing, to show" 2 "" "bg_relay: $work/none is not there: name the two files of a party, or a folder" \
         show "$work/none"
     check "a file in the place of a folder, to show" 2 "" "bg_relay: $work/save/below can't be used: " \
         show "$work/save/below"

@@ -17,6 +17,11 @@ def check_refusals(room):
     os.mkdir(f"{room}/empty")
     _, error, status = run("board", f"{room}/empty", "--out", f"{room}/empty", "--once")
     right(status == 0 and f"bg_relay: {room}/empty has no match" in error, f"no match: {status}: {error}")
+    for unread in ("missing", "tables/monday/match/below"):
+        _, error, status = run("board", f"{room}/{unread}", f"{room}/tables", "--out", f"{room}/empty", "--once")
+        is_said = error.startswith(f"bg_relay: {room}/{unread} can't be read: ")
+        right(status == 1 and is_said and "monday.html" in os.listdir(f"{room}/empty"),
+              f"{unread} as a folder of matches: {status}: {error}: {os.listdir(f'{room}/empty')}")
     damaged = f"{room}/odd/a b'<"
     shutil.copytree(f"{room}/tables/monday", damaged)
     shutil.copytree(f"{room}/tables/monday", f"{room}/odd/deep/er/index")

@@ -1,4 +1,5 @@
 """Files that are refused: those that are missing or cut, and texts that are none of a match or of a key."""
+import os
 import shutil
 
 from processes.running import check
@@ -33,6 +34,11 @@ def check_outputs(top):
         check(f"one file for two outputs, {other}", 2, "", f"{top}/{one} is named for two outputs", "watch", "--match",
               f"{top}/bad", *outputs)
     outputs = ["--board", f"{top}/one", "--page", f"{top}/empty/one", "--transcript", f"{top}/other"]
+    os.mkfifo(f"{top}/pipe")
+    os.symlink("pipe", f"{top}/to-pipe")
+    for option, path in (("--board", "pipe"), ("--transcript", "to-pipe"), ("--page", "empty")):
+        check(f"an output that is no file, {path}", 2, "", f"{top}/{path} is no regular file: name another one", "watch",
+              "--match", f"{top}/bad", option, f"{top}/{path}")
     check("three files for three outputs", 2, "", "is no key file", "watch", "--match", f"{top}/bad", *outputs)
 
 

@@ -1,4 +1,5 @@
-"""The command that serves matches: its log, the ports and folders that it refuses, and how it goes on without files."""
+"""The command that serves matches: its log, also of what it can't write, the ports and folders that it refuses, and how it goes
+on without files."""
 import os
 import shutil
 import socket
@@ -35,6 +36,46 @@ def serve_with_log(port):
         right(f"bg_relay: {line}\n" in lines, f"the log lacks {line}: {lines}")
     right("bg_relay: matches ended: 1\n" in lines, f"the log lacks the end of a match: {lines}")
     right(secret_of(made["x"]) not in lines and "Anna" not in lines, "a secret or a name is in the log")
+
+
+def log_faults(port):
+    """A file that can't be written is logged by its path; that no match can be made is logged once, until one is made again."""
+    folder = tempfile.mkdtemp()
+    tables = os.path.join(folder, "tables")
+    server = Served(tables, port).begin()
+    try:
+        made = server.make(length=1)
+        file = fail_to_save(server, made)
+        statuses = [make_without_folder(server), server.make(length=1) and 201, make_without_folder(server)]
+        right(statuses == [{507}, 201, {507}], f"matches without a folder came to {statuses}")
+    finally:
+        server.kill()
+        shutil.rmtree(folder, ignore_errors=True)
+    lines = server.process.stderr.read().decode().splitlines()
+    right(f"bg_relay: {file} could not be written: it is no plain file" in lines, f"the log lacks {file}: {lines}")
+    told = [line for line in lines if line.startswith(f"bg_relay: no match can be made in {tables}: ")]
+    right(len(told) == 2, f"matches that could not be made are logged as {lines}")
+
+
+def fail_to_save(server, made):
+    """Lets the player on turn act while the file of the save is none; gives its path."""
+    name = made["match"]
+    turn = state_of(server, name)["turn"].lower()
+    files = [os.path.join(server.folder, name, f"party-{1 + 'xo'.index(turn)}.{slot}") for slot in (0, 1)]
+    for file in files:
+        os.mkdir(file)
+    answer = server.ask(f"/matches/{name}/actions", b"2 resign normal", bearer(made[turn]))[2]
+    right(answer == b'{"re":2,"no":"not saved: try again"}', f"an action that can't be saved came to {answer}")
+    return files[1]
+
+
+def make_without_folder(server):
+    """The statuses of some requests to make a match while the folder of all matches is away."""
+    away = server.folder + "-away"
+    os.rename(server.folder, away)
+    statuses = {server.ask("/matches", b'{"length":1}', JSON)[0] for _ in range(3)}
+    os.rename(away, server.folder)
+    return statuses
 
 
 def make_many(server):

@@ -82,6 +82,8 @@ def make_link(server, made):
 def delete_and_restore(server, name, link, watcher, copies):
     """A match is copied with all, deleted, and restored from its copy."""
     path = f"/matches/{name}"
+    # An entry whose name is no text is no match, and in nobody's way.
+    os.mkdir(os.fsencode(server.folder) + b"/\xff")
     right(manage(server, "--backup", copies)[0] == 0 and os.path.exists(f"{copies}/{name}/match"), "copies of all")
     right(manage(server, "--match", name, "--restore", copies)[0] == 2, "a match that is there is restored")
     # What a kill has left of an earlier deletion is in nobody's way.
@@ -101,6 +103,8 @@ def refuse_to_manage(server, name, copies):
                                (("--hide",), 2, "name the match"), (("--match", name), 2, "give one of"),
                                (("--match", name, "--hide", "--show"), 2, "give one of"),
                                (("--backup", copies), 2, "is there already: name a new folder"),
+                               (("--backup", copies + "/none/new"), 2, f"{copies}/none is missing: make it first"),
+                               (("--backup", f"{copies}/{name}/match/new"), 2, f"{name}/match is no folder: name another one"),
                                (("--backup", copies + "-again", "--match", name), 2, "leave out --match"),
                                (("--restore", copies, "--match", "none"), 2, "-copies has no match none"),
                                (("--restore", copies, "--match", "../x"), 2, "has no match ../x"),

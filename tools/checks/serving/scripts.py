@@ -20,6 +20,7 @@ def ask_as_scripts(server):
     act(server, name, seat)
     refuse_requests(server, name, seat)
     show_all(server, name)
+    compare_colours(server, name)
     compare_counts(server, before, counted(server))
     accept(server, name, other)
     ended = counted(server)["bg_relay_matches_ended_total"] - before["bg_relay_matches_ended_total"]
@@ -85,12 +86,21 @@ def refuse_requests(server, name, seat):
             ("/matches", b'{"length":3}', {**JSON, **ELSEWHERE}, 403),
             ("/matches/../secret", None, {}, 404), (f"/matches/{name}/secret", None, {}, 404),
             (f"/matches/{name}/states/99", None, {}, 404), (f"/matches/{name}/states/01", None, {}, 404),
+            *((f"/matches?{query}", None, {}, 400) for query in ("list=other", "list=", "page=0", "page=x", "form=zip")),
             ("/matches/none", None, {}, 404), ("/play/live", None, {}, 426)):
         answer = server.ask(path, body, headers)
         right(answer[0] == status, f"{path} {body and body[:20]} came to {answer[0]}")
     for path, body, methods in ((actions, None, "POST"), ("/play", b"", "GET, HEAD")):
         status, headers, _ = server.ask(path, body, {})
         right(status == 405 and headers["allow"] == methods, f"{path} came to {status}, allow {headers['allow']}")
+    for path, body, headers, status, said in (
+            ("/matches?list=other", None, {}, 400, "list is live, idle or finished, page a number from 1 on, "),
+            ("/matches", b"[" * 5000, JSON, 413, "at most 4096 bytes: send a shorter one\n"),
+            ("/matches", None, {"x": "x" * 9000}, 431, "at most 8192 bytes and 64 headers: send fewer\n"),
+            ("/matches", None, {f"x-{number}": "x" for number in range(70)}, 431, "64 headers: send fewer\n")):
+        came, found, text = server.ask(path, body, headers)
+        right(came == status and said in text.decode() and found["content-type"] == "text/plain; charset=utf-8",
+              f"{path} with {len(headers)} headers came to {came} {text}")
     refused = server.ask("/matches", b'{"length":3,"name_x":"Anna"}', JSON)[2].decode()
     right('"name_x"' in refused and all(f'"{key}"' in refused for key in ("length", "rules", "x", "o")),
           f"a wrong key is refused by {refused}")
@@ -113,6 +123,14 @@ def show_all(server, name):
                   and b"onclick" not in text and b"<script>" not in text, f"policy of {path}")
     policy = server.ask(f"/matches/{name}/embed")[1]["content-security-policy"]
     right("frame-ancestors *" in policy, "the page for frames")
+
+
+def compare_colours(server, name):
+    """X is darker than O in pictures, and on pages, light and dark."""
+    for path, form in ((f"/matches/{name}/picture", r"\.%s{fill:#(\w{6})"), ("/style.css", r"--%s: #(\w{6})")):
+        text = server.ask(path)[2].decode()
+        dark, light = ([sum(bytes.fromhex(shade)) for shade in re.findall(form % player, text)] for player in "xo")
+        right(dark and all(x < o for x, o in zip(dark, light)), f"X and O of {path} have the shades {dark} and {light}")
 
 
 def compare_counts(server, before, after):
