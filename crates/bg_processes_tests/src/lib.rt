@@ -1,5 +1,5 @@
-//! Tests of the devices of parties and of matches between processes, by what is public of
-//! bg_processes.
+//! Tests of what parties run on, by what is public of its crates: sockets, files, sealed datagrams,
+//! what is exchanged with an etcd cluster, the devices of parties, and matches between processes.
 #![tactic(auto)]
 
 #[cfg(test)]
@@ -28,6 +28,8 @@ mod rules;
 mod seat_saves;
 #[cfg(test)]
 mod slot_files;
+#[cfg(test)]
+mod system;
 #[cfg(test)]
 mod udp;
 #[cfg(test)]

@@ -1,11 +1,15 @@
-//! Tests of worlds, of their parties by themselves and in several processes, and of automatic
-//! players and their matches, by what is public of bg_world, bg_fences and bg_auto.
+//! Tests of worlds, of their parties by themselves and in several processes, of automatic players
+//! and their matches, and of what crosses crates, by what is public of them.
 #![tactic(auto)]
 
+#[cfg(test)]
+mod across;
 #[cfg(test)]
 mod checks;
 #[cfg(test)]
 mod devices;
+#[cfg(test)]
+mod fronts;
 #[cfg(test)]
 mod players;
 #[cfg(test)]

@@ -1,5 +1,5 @@
 //! Refused growths.
-use crate::checks::check_row;
+use crate::checks::{check_no_growth_is_left, check_row};
 use crate::parties::{TERMS, resigns};
 use bg_parties::{OpenFault, Party, RoleFault, Taken};
 use bg_referee::{DueFault, TakeOutcome};
@@ -92,6 +92,5 @@ fn refused_growths(rt: HostRuntime) {
     let first = first_text(rt.alloc()).expect(&rt, "the text of the opening");
     let second = second_text(rt.alloc(), first).expect(&rt, "the text of both entries");
     check_row(&rt, "both entries", holds_both(rt.alloc(), second));
-    let growth = Vec::<u8>::with_capacity(rt.alloc(), 1);
-    check_row(&rt, "no growth is left", growth.is_ok());
+    check_no_growth_is_left(&rt);
 }

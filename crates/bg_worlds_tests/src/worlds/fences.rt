@@ -9,7 +9,7 @@ mod stores;
 use crate::checks::lasting;
 use crate::devices::links::OwnLink;
 use crate::devices::{NO_FAILURE, Recorder};
-use crate::worlds::growths::is_front;
+use crate::fronts::is_front;
 use crate::worlds::nodes::below;
 use bg_board::Player;
 use bg_fences::{FencedKeeper, FencedMemoryKeeper};

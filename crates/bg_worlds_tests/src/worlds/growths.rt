@@ -1,37 +1,12 @@
 //! Runs in which memory is refused. No run of the tests refuses any, but
 //! `tools/checks/refuse_growths` refuses each growth in turn.
 use crate::checks::check_no_growth_is_left;
+use crate::fronts::check_fronts;
 use crate::worlds::lines::{check_outcome, lines_of};
-use crate::worlds::memory_worlds::{MemoryWorld, happen, record_of, world_of};
-use bg_match::Record;
+use crate::worlds::memory_worlds::{MemoryWorld, happen, world_of};
 use bg_world::Outcome;
 use std::process::Abort;
 use std::test::Fail;
-
-/// Whether the record is a front of the whole.
-pub(crate) fn is_front(record: &Record, whole: &Record) -> bool {
-    if record.len() > whole.len() {
-        return false;
-    }
-    for number in 1..=record.len() {
-        if record.entry(number) != whole.entry(number) {
-            return false;
-        }
-    }
-    true
-}
-
-/// The record of every party that is up is a front of the referee's, where that is up.
-fn check_fronts(rt: &impl Abort, world: &MemoryWorld) {
-    let Some(whole) = record_of(world, 0) else {
-        return;
-    };
-    for party in 1..4 {
-        if let Some(record) = record_of(world, party) {
-            assert!(rt; is_front(record, whole), "party {party}");
-        }
-    }
-}
 
 /// Whether a device failed, or slots restore nothing for their party.
 fn is_fault(outcome: &Outcome) -> bool {
@@ -71,7 +46,7 @@ fn check_rows(rt: &(impl AllocGlobal + Abort), lines: &[&str]) {
     for line in lines {
         if let Some((event, expected)) = line.split_once(" -> ") {
             undisturbed = check_row(rt, world, undisturbed, event, expected);
-            check_fronts(rt, world);
+            check_fronts(rt, world, 3);
         }
     }
 }

@@ -1,6 +1,6 @@
 //! The link in memory: what it hands over and counts, and which of its sends fail.
 use crate::checks::check_row;
-use crate::worlds::growths::is_front;
+use crate::fronts::is_front;
 use crate::worlds::lines::has_line;
 use crate::worlds::memory_worlds::{
     MemoryWorld, check_plays, happen, played, record_of, sent_to, step,

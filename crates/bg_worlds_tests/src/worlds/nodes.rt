@@ -4,7 +4,7 @@ ghost use Rattle.std.specs.Prelude.{◌<◌, ◌≤◌};
 
 use crate::checks::{check_no_growth_is_left, check_party, check_row};
 use crate::devices::{NO_FAILURE, Recorder};
-use crate::worlds::growths::is_front;
+use crate::fronts::is_front;
 use crate::worlds::lines::{event, lines_of};
 use crate::worlds::memory_worlds::{MemoryWorld, record_of, step, world_of};
 use crate::worlds::own_links::{is_taken, sends};
