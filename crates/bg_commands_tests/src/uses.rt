@@ -19,10 +19,10 @@ use bg_seat_commands::auto;
 use bg_wire::REFEREE;
 use bg_world::Outcome;
 use std::fs;
+use std::process::Abort;
 use std::test::Fail;
 
-#[test]
-fn a_page_is_asked_for(rt: HostRuntime) -> Result<(), Fail> {
+fn check_a_page_is_asked_for(rt: &(impl AllocGlobal + Abort)) -> Result<(), Fail> {
     let alloc = rt.alloc();
     // bg_options
     // The command line has the command that its first argument names, and its help all of them.
@@ -34,6 +34,11 @@ fn a_page_is_asked_for(rt: HostRuntime) -> Result<(), Fail> {
     assert!(rt; page.title == Some("Anna against Otto") && page.numbering == Numbering::Mover);
     // end
     Ok(())
+}
+
+#[test]
+fn a_page_is_asked_for(rt: HostRuntime) -> Result<(), Fail> {
+    check_a_page_is_asked_for(&rt)
 }
 
 #[test]

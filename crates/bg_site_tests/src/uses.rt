@@ -42,8 +42,7 @@ fn hosted_matches(rt: HostRuntime) -> Result<(), WorldFault> {
     Ok(())
 }
 
-#[test]
-fn states(rt: HostRuntime) -> Result<(), Fail> {
+fn check_states(rt: &(impl AllocGlobal + Abort)) -> Result<(), Fail> {
     let alloc = rt.alloc();
     // bg_states
     let mut log = Record::new(alloc, 7, 1, Rules::One)?;
@@ -52,6 +51,11 @@ fn states(rt: HostRuntime) -> Result<(), Fail> {
     assert!(rt; text.starts_with(b"{\"number\":1,\"length\":1,\"rules\":1,\"game\":1,"));
     // end
     Ok(())
+}
+
+#[test]
+fn states(rt: HostRuntime) -> Result<(), Fail> {
+    check_states(&rt)
 }
 
 #[test]

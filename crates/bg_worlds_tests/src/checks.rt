@@ -13,6 +13,16 @@ pub(crate) fn lasting<'a, T: Drop + 'a>(alloc: Global, value: T) -> Result<&'a m
     Ok(Box::leak(Box::new(alloc, value)?))
 }
 
+/// It holds of what these words name.
+pub(crate) fn check(rt: &impl Abort, what: &str, holds: bool) {
+    assert!(rt; holds, "{what}");
+}
+
+/// It holds of this number.
+pub(crate) fn check_number(rt: &impl Abort, what: &str, number: u64, holds: bool) {
+    assert!(rt; holds, "{what} {number}");
+}
+
 /// The row holds.
 pub(crate) fn check_row(rt: &impl Abort, row: usize, holds: bool) {
     assert!(rt; holds, "row {row}");

@@ -1,5 +1,5 @@
 //! What records of one match have in common, and that they are legal.
-use crate::checks::check_party;
+use crate::checks::{check_number, check_party};
 use crate::worlds::memory_worlds::MemoryWorld;
 use bg_match::{Number, Record};
 use std::alloc::Global;
@@ -19,7 +19,7 @@ pub(crate) fn check_legal(rt: &impl Abort, alloc: Global, record: &Record) {
     let again = Record::new(alloc, record.id(), record.length(), record.rules());
     let mut again = again.expect(rt, "a length");
     for number in 1..=record.len() {
-        assert!(rt; push(&mut again, record, number), "entry {number}");
+        check_number(rt, "entry", number.into(), push(&mut again, record, number));
     }
 }
 

@@ -3,10 +3,10 @@
 use bg_fences::{FencedMemoryKeeper, save_referee};
 use bg_match::{Rules, Terms};
 use bg_protocol::{Event, Outcome, Plan, RefereeNode, Setup, simulate};
+use std::process::Abort;
 use std::test::Fail;
 
-#[test]
-fn worlds(rt: HostRuntime) -> Result<(), Fail> {
+fn check_worlds(rt: &(impl AllocGlobal + Abort)) -> Result<(), Fail> {
     let alloc = rt.alloc();
     // bg_protocol
     let setup = Setup {
@@ -29,7 +29,11 @@ fn worlds(rt: HostRuntime) -> Result<(), Fail> {
 }
 
 #[test]
-fn fences(rt: HostRuntime) -> Result<(), Fail> {
+fn worlds(rt: HostRuntime) -> Result<(), Fail> {
+    check_worlds(&rt)
+}
+
+fn check_fences(rt: &(impl AllocGlobal + Abort)) -> Result<(), Fail> {
     let alloc = rt.alloc();
     // bg_fences
     let terms = Terms {
@@ -46,4 +50,9 @@ fn fences(rt: HostRuntime) -> Result<(), Fail> {
     assert!(rt; second.restart(&mut keeper) == Outcome::Restarted);
     // end
     Ok(())
+}
+
+#[test]
+fn fences(rt: HostRuntime) -> Result<(), Fail> {
+    check_fences(&rt)
 }

@@ -12,7 +12,7 @@ mod growths;
 mod lines;
 mod memory_keepers;
 mod memory_nets;
-mod memory_worlds;
+pub(crate) mod memory_worlds;
 mod nodes;
 mod outcomes;
 mod own_links;
@@ -23,7 +23,7 @@ mod simulations;
 mod two_steps;
 mod worked_matches;
 
-use crate::checks::check_party;
+use crate::checks::{check, check_party};
 use bg_board::Player;
 use bg_world::{Event, Role};
 use lines::event;
@@ -56,6 +56,6 @@ fn copies_of_events(rt: HostRuntime) {
         "tick 2",
         "restart 0",
     ] {
-        assert!(rt; copies(&event(&rt, line)), "{line}");
+        check(&rt, line, copies(&event(&rt, line)));
     }
 }

@@ -104,12 +104,16 @@ fn check_spelling(rt: &impl Abort, alloc: Global, spelling: &str, plain: &str) {
     }
 }
 
+fn check_spellings_of_other_programs(rt: &(impl AllocGlobal + Abort)) {
+    for row in SPELLINGS.lines() {
+        let (spelling, plain) = row.split_once(" | ").expect(rt, row);
+        check_spelling(rt, rt.alloc(), spelling, plain);
+    }
+}
+
 #[test]
 fn spellings_of_other_programs(rt: HostRuntime) {
-    for row in SPELLINGS.lines() {
-        let (spelling, plain) = row.split_once(" | ").expect(&rt, row);
-        check_spelling(&rt, rt.alloc(), spelling, plain);
-    }
+    check_spellings_of_other_programs(&rt);
 }
 
 static WHOLE: [&str; 3] = [

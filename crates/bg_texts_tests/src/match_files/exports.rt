@@ -61,15 +61,19 @@ static ENDS: [(&str, u32); 6] = [
     ("21:\n", 13),
 ];
 
+fn check_files_that_break_off(rt: &(impl AllocGlobal + Abort)) {
+    for &(end, len) in &ENDS {
+        let (_, rest) = TWO_GAMES.split_once(end).expect(rt, end);
+        let text = TWO_GAMES.strip_suffix(rest).expect(rt, end);
+        check_written(rt, rt.alloc(), text, len);
+    }
+}
+
 /// A file that breaks off within a game, behind a win, or with dice that are not moved comes back
 /// as it was.
 #[test]
 fn files_that_break_off(rt: HostRuntime) {
-    for &(end, len) in &ENDS {
-        let (_, rest) = TWO_GAMES.split_once(end).expect(&rt, end);
-        let text = TWO_GAMES.strip_suffix(rest).expect(&rt, end);
-        check_written(&rt, rt.alloc(), text, len);
-    }
+    check_files_that_break_off(&rt);
 }
 
 /// What is written of the record of some rows ends so.

@@ -138,11 +138,15 @@ static FAULTS_OF_GAMES: [(&str, &str); 31] = [
     ("31: 8/5 6/5  42:\n Game 2\n", "5 NoSuchTurn"),
 ];
 
+fn check_faults_of_lines(rt: &(impl AllocGlobal + Abort)) {
+    check_rows(rt, rt.alloc(), "", &FAULTS_OF_HEADINGS);
+    check_rows(rt, rt.alloc(), ONE_POINT, &FAULTS_OF_CELLS);
+    check_rows(rt, rt.alloc(), THREE_POINTS, &FAULTS_OF_GAMES);
+}
+
 #[test]
 fn faults_of_lines(rt: HostRuntime) {
-    check_rows(&rt, rt.alloc(), "", &FAULTS_OF_HEADINGS);
-    check_rows(&rt, rt.alloc(), ONE_POINT, &FAULTS_OF_CELLS);
-    check_rows(&rt, rt.alloc(), THREE_POINTS, &FAULTS_OF_GAMES);
+    check_faults_of_lines(&rt);
 }
 
 /// A comment of so many bytes is refused so.

@@ -2,10 +2,10 @@
 //! compares them).
 use bg_mat::{export_mat, import_mat};
 use bg_match::Rules;
+use std::process::Abort;
 use std::test::Fail;
 
-#[test]
-fn match_files(rt: HostRuntime) -> Result<(), Fail> {
+fn check_match_files(rt: &(impl AllocGlobal + Abort)) -> Result<(), Fail> {
     let alloc = rt.alloc();
     // bg_mat
     let file = b" 1 point match\n\n Game 1\n A : 0   B : 0\n 1) 31: 8/5 6/5\n";
@@ -16,4 +16,9 @@ fn match_files(rt: HostRuntime) -> Result<(), Fail> {
     assert!(rt; text.starts_with(b" 1 point match\n\n Game 1\n X : 0 "));
     // end
     Ok(())
+}
+
+#[test]
+fn match_files(rt: HostRuntime) -> Result<(), Fail> {
+    check_match_files(&rt)
 }

@@ -64,14 +64,18 @@ fn check_games(
     check_results(rt, alloc, transcript.as_str(), results);
 }
 
+fn check_results_by_bearing_off(rt: &(impl AllocGlobal + Abort)) {
+    let single = ("length 2", SINGLE_GAME, "");
+    check_games(rt, rt.alloc(), single, &OF_A_SINGLE_GAME);
+    let gammon = ("length 3", GAMMON, SINGLE_GAME);
+    check_games(rt, rt.alloc(), gammon, &OF_A_GAMMON);
+    let backgammon = ("length 5 rules 2", BACKGAMMON, GAMMON);
+    check_games(rt, rt.alloc(), backgammon, &OF_A_BACKGAMMON);
+}
+
 #[test]
 fn results_by_bearing_off(rt: HostRuntime) {
-    let single = ("length 2", SINGLE_GAME, "");
-    check_games(&rt, rt.alloc(), single, &OF_A_SINGLE_GAME);
-    let gammon = ("length 3", GAMMON, SINGLE_GAME);
-    check_games(&rt, rt.alloc(), gammon, &OF_A_GAMMON);
-    let backgammon = ("length 5 rules 2", BACKGAMMON, GAMMON);
-    check_games(&rt, rt.alloc(), backgammon, &OF_A_BACKGAMMON);
+    check_results_by_bearing_off(&rt);
 }
 
 static OF_A_DROP: [&str; 2] = [

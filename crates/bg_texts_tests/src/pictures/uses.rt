@@ -2,10 +2,10 @@
 //! compares them).
 use bg_match::{Record, Rules};
 use bg_picture::{Numbering, PageWords, page_text, picture_text};
+use std::process::Abort;
 use std::test::Fail;
 
-#[test]
-fn pictures_and_pages(rt: HostRuntime) -> Result<(), Fail> {
+fn check_pictures_and_pages(rt: &(impl AllocGlobal + Abort)) -> Result<(), Fail> {
     let alloc = rt.alloc();
     // bg_picture
     let record = Record::new(alloc, 1, 5, Rules::One)?;
@@ -20,4 +20,9 @@ fn pictures_and_pages(rt: HostRuntime) -> Result<(), Fail> {
     assert!(rt; page.starts_with(b"<!DOCTYPE html>"));
     // end
     Ok(())
+}
+
+#[test]
+fn pictures_and_pages(rt: HostRuntime) -> Result<(), Fail> {
+    check_pictures_and_pages(&rt)
 }

@@ -1,10 +1,10 @@
 //! The lines of use that stand in the library's documentation, run (`tools/checks/check_uses`
 //! compares them).
 use bg_reports::{DONE, Ending, REFUSED, check_text, show_text};
+use std::process::Abort;
 use std::test::Fail;
 
-#[test]
-fn reports(rt: HostRuntime) -> Result<(), Fail> {
+fn check_reports(rt: &(impl AllocGlobal + Abort)) -> Result<(), Fail> {
     let alloc = rt.alloc();
     // bg_reports
     let (text, verdict) = check_text(alloc, "a.txt", b"length 1\nopen 3 1\n", None)?;
@@ -15,4 +15,9 @@ fn reports(rt: HostRuntime) -> Result<(), Fail> {
     assert!(rt; Ending::Shown { loads }.status() == REFUSED);
     // end
     Ok(())
+}
+
+#[test]
+fn reports(rt: HostRuntime) -> Result<(), Fail> {
+    check_reports(&rt)
 }

@@ -137,13 +137,17 @@ static REFUSALS: [[&str; 3]; 18] = [
     ],
 ];
 
-#[test]
-fn refusals_of_actions(rt: HostRuntime) {
+fn check_refusals_of_actions(rt: &(impl AllocGlobal + Abort)) {
     for row in &REFUSALS {
-        check_refusal(&rt, rt.alloc(), row);
+        check_refusal(rt, rt.alloc(), row);
     }
     let wanted = "your choice for entry 12 is kept, and waits for the referee\n";
-    check_text(&rt, wanted, waiting_text(rt.alloc(), 12), wanted);
+    check_text(rt, wanted, waiting_text(rt.alloc(), 12), wanted);
+}
+
+#[test]
+fn refusals_of_actions(rt: HostRuntime) {
+    check_refusals_of_actions(&rt);
 }
 
 /// The turn of a line.

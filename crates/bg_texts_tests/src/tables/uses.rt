@@ -3,10 +3,10 @@
 use bg_board::{Board, Die, Player};
 use bg_match::{Action, Entry, EntryFault, Record, Rules};
 use bg_table::{Drawing, offered, pip_count, refusal_text, seat_view_text};
+use std::process::Abort;
 use std::test::Fail;
 
-#[test]
-fn what_a_player_sees(rt: HostRuntime) -> Result<(), Fail> {
+fn check_what_a_player_sees(rt: &(impl AllocGlobal + Abort)) -> Result<(), Fail> {
     let alloc = rt.alloc();
     // bg_table
     let mut record = Record::new(alloc, 1, 3, Rules::One)?;
@@ -22,4 +22,9 @@ fn what_a_player_sees(rt: HostRuntime) -> Result<(), Fail> {
     assert!(rt; refusal.starts_with(b"the dice are rolled: move them\nyour turn, O: move .."));
     // end
     Ok(())
+}
+
+#[test]
+fn what_a_player_sees(rt: HostRuntime) -> Result<(), Fail> {
+    check_what_a_player_sees(&rt)
 }

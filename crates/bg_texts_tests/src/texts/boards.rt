@@ -95,15 +95,19 @@ static LEVELS: [(Level, &str); 3] = [
     (Level::Backgammon, "backgammon"),
 ];
 
+fn check_what_is_next_stands_behind_other_words(rt: &(impl AllocGlobal + Abort)) {
+    let standing = record(rt, rt.alloc()).standing();
+    let mut text = Vec::from_slice(rt.alloc(), b"next: ").expect(rt, "memory");
+    put_phase(&mut text, &standing).expect(rt, "memory");
+    check_told(rt, "phase", text_of(&text), "next: O to roll");
+    check_told(rt, "X", letter(Player::X), "X");
+    check_told(rt, "O", letter(Player::O), "O");
+    for &(level, word) in &LEVELS {
+        check_told(rt, word, level_word(level), word);
+    }
+}
+
 #[test]
 fn what_is_next_stands_behind_other_words(rt: HostRuntime) {
-    let standing = record(&rt, rt.alloc()).standing();
-    let mut text = Vec::from_slice(rt.alloc(), b"next: ").expect(&rt, "memory");
-    put_phase(&mut text, &standing).expect(&rt, "memory");
-    check_told(&rt, "phase", text_of(&text), "next: O to roll");
-    check_told(&rt, "X", letter(Player::X), "X");
-    check_told(&rt, "O", letter(Player::O), "O");
-    for &(level, word) in &LEVELS {
-        check_told(&rt, word, level_word(level), word);
-    }
+    check_what_is_next_stands_behind_other_words(&rt);
 }

@@ -9,15 +9,19 @@ use bg_text::{MAX_INPUT, Verdict, judge_text, read_transcript};
 use std::alloc::{AllocError, Global};
 use std::process::Abort;
 
+fn check_transcript_of_a_record(rt: &(impl AllocGlobal + Abort)) {
+    let record = record(rt, rt.alloc());
+    let transcript = written(rt, rt.alloc(), &record);
+    check_told(rt, MATCH, text_of(&transcript), MATCH);
+    let told = judged(rt, rt.alloc(), &transcript);
+    let verdict = told.strip_prefix(TEXT_OF_MATCH);
+    check_row(rt, "judgement", verdict == Some("Fine(2)"));
+}
+
 /// A record has the transcript of MATCH, which is judged as it is.
 #[test]
 fn transcript_of_a_record(rt: HostRuntime) {
-    let record = record(&rt, rt.alloc());
-    let transcript = written(&rt, rt.alloc(), &record);
-    check_told(&rt, MATCH, text_of(&transcript), MATCH);
-    let told = judged(&rt, rt.alloc(), &transcript);
-    let verdict = told.strip_prefix(TEXT_OF_MATCH);
-    check_row(&rt, "judgement", verdict == Some("Fine(2)"));
+    check_transcript_of_a_record(&rt);
 }
 
 /// Whether a text is judged so, and its judgement ends so.

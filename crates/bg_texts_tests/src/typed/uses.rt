@@ -3,10 +3,10 @@
 use bg_board::{Board, Die, Player, Step};
 use bg_turns::Dice;
 use bg_typed::{TypedFault, read_turn};
+use std::process::Abort;
 use std::test::Fail;
 
-#[test]
-fn a_typed_turn(rt: HostRuntime) -> Result<(), Fail> {
+fn check_a_typed_turn(rt: &(impl AllocGlobal + Abort)) -> Result<(), Fail> {
     let alloc = rt.alloc();
     // bg_typed
     let dice = Dice {
@@ -20,4 +20,9 @@ fn a_typed_turn(rt: HostRuntime) -> Result<(), Fail> {
     assert!(rt; none.err() == Some(TypedFault::NoSuchTurn));
     // end
     Ok(())
+}
+
+#[test]
+fn a_typed_turn(rt: HostRuntime) -> Result<(), Fail> {
+    check_a_typed_turn(&rt)
 }

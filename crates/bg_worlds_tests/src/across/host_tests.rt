@@ -3,6 +3,7 @@ ghost use Rattle.std.specs.Prelude.{IfSome};
 ghost use Rattle.bg_wire.specs.Packets.PacketText.{IsPacket};
 
 use crate::across::hosts::{Host, new_folder, remove_folder};
+use crate::checks::check;
 use bg_board::Player;
 use bg_examples::own_devices::{BeginFault, world_over};
 use bg_examples::referee_host::{HostFault, RefereeHost};
@@ -309,9 +310,9 @@ fn check_worlds(rt: &impl Host) {
     let host = rt.host();
     let folder = new_folder(rt, "worlds-go-on");
     let first = world_over(host, folder, SETUP).expect(rt, "a world");
-    assert!(rt; begins(first), "the match begins");
+    check(rt, "the match begins", begins(first));
     let later = world_over(host, folder, SETUP).expect(rt, "a world");
-    assert!(rt; goes_on(later), "the match goes on");
+    check(rt, "the match goes on", goes_on(later));
     assert!(rt; is_refused(host, folder));
     remove_folder(rt, folder);
 }

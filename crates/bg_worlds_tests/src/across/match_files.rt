@@ -1,4 +1,5 @@
 //! Automatic matches, written as match files of other programs and read back.
+use crate::checks::{check, check_number};
 use crate::fronts::is_front;
 use bg_auto::auto_action;
 use bg_board::Player;
@@ -96,7 +97,11 @@ fn played(rt: &impl Abort, alloc: Global, seed: u8, rules: Rules) -> Record {
             break;
         }
     }
-    assert!(rt; record.actor() == Actor::Nobody, "the match does not end");
+    check(
+        rt,
+        "the match does not end",
+        record.actor() == Actor::Nobody,
+    );
     record
 }
 
@@ -115,7 +120,12 @@ fn is_kept(record: &Record, number: Number) -> bool {
 /// Appends a copy of the entry that another record has under this number.
 fn push(rt: &impl Abort, record: &mut Record, other: &Record, number: Number) {
     let entry = other.entry(number).expect(rt, "an entry");
-    assert!(rt; record.push(entry.copy()).is_ok(), "entry {number}");
+    check_number(
+        rt,
+        "entry",
+        number.into(),
+        record.push(entry.copy()).is_ok(),
+    );
 }
 
 /// The entries that a match file keeps.

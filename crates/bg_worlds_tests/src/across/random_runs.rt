@@ -1,5 +1,6 @@
 //! Worlds under random events of all kinds, whose devices fail now and then.
 use crate::across::actions::action_of;
+use crate::checks::check_number;
 use crate::fronts::{check_fronts, check_legal};
 use crate::worlds::memory_worlds::MemoryWorld;
 use bg_board::Player;
@@ -156,7 +157,12 @@ fn is_claimed(claims: &[Claim], seat: Player, number: Number, entry: &Entry) -> 
 fn check_claimed(rt: &impl Abort, record: &Record, claims: &[Claim]) {
     for number in 1..=record.len() {
         if let (Some(seat), Some(entry)) = (record.by(number), record.entry(number)) {
-            assert!(rt; is_claimed(claims, seat, number, entry), "entry {number}");
+            check_number(
+                rt,
+                "entry",
+                number.into(),
+                is_claimed(claims, seat, number, entry),
+            );
         }
     }
 }

@@ -11,6 +11,7 @@ use bg_text::{Verdict, entry_text, judge_text, parse_entry};
 use bg_turns::{dice_of, judge_turn, legal_turns, most};
 use bg_wire::{Packet, decode, encode};
 use bg_world::{Event, Outcome, Plan, Setup, outcome_text, parse_event, simulate};
+use std::process::Abort;
 use std::test::Fail;
 
 #[test]
@@ -43,8 +44,7 @@ fn turns(rt: HostRuntime) -> Result<(), Fail> {
     Ok(())
 }
 
-#[test]
-fn records(rt: HostRuntime) -> Result<(), Fail> {
+fn check_records(rt: &(impl AllocGlobal + Abort)) -> Result<(), Fail> {
     let alloc = rt.alloc();
     // bg_match
     let mut record = Record::new(alloc, 1, 5, Rules::One)?;
@@ -60,7 +60,11 @@ fn records(rt: HostRuntime) -> Result<(), Fail> {
 }
 
 #[test]
-fn streams(rt: HostRuntime) -> Result<(), Fail> {
+fn records(rt: HostRuntime) -> Result<(), Fail> {
+    check_records(&rt)
+}
+
+fn check_streams(rt: &(impl AllocGlobal + Abort)) -> Result<(), Fail> {
     let alloc = rt.alloc();
     // bg_streams
     let mut source = Reading::new("some bytes".as_bytes());
@@ -73,7 +77,11 @@ fn streams(rt: HostRuntime) -> Result<(), Fail> {
 }
 
 #[test]
-fn texts(rt: HostRuntime) -> Result<(), Fail> {
+fn streams(rt: HostRuntime) -> Result<(), Fail> {
+    check_streams(&rt)
+}
+
+fn check_texts(rt: &(impl AllocGlobal + Abort)) -> Result<(), Fail> {
     let alloc = rt.alloc();
     // bg_text
     let (player, entry) = parse_entry(b"X roll 3 1")?;
@@ -83,6 +91,11 @@ fn texts(rt: HostRuntime) -> Result<(), Fail> {
     assert!(rt; judged.text.ends_with(b"O to roll\nok 2\n"));
     // end
     Ok(())
+}
+
+#[test]
+fn texts(rt: HostRuntime) -> Result<(), Fail> {
+    check_texts(&rt)
 }
 
 #[test]
@@ -100,8 +113,7 @@ fn bytes(rt: HostRuntime) -> Result<(), Fail> {
     Ok(())
 }
 
-#[test]
-fn referees(rt: HostRuntime) -> Result<(), Fail> {
+fn check_referees(rt: &(impl AllocGlobal + Abort)) -> Result<(), Fail> {
     let alloc = rt.alloc();
     // bg_referee
     let mut referee = Referee::fresh(alloc, 1, 5, Rules::One)?;
@@ -122,7 +134,11 @@ fn referees(rt: HostRuntime) -> Result<(), Fail> {
 }
 
 #[test]
-fn parties(rt: HostRuntime) -> Result<(), Fail> {
+fn referees(rt: HostRuntime) -> Result<(), Fail> {
+    check_referees(&rt)
+}
+
+fn check_parties(rt: &(impl AllocGlobal + Abort)) -> Result<(), Fail> {
     let alloc = rt.alloc();
     // bg_parties
     let terms = Terms {
@@ -151,7 +167,11 @@ fn parties(rt: HostRuntime) -> Result<(), Fail> {
 }
 
 #[test]
-fn seats(rt: HostRuntime) -> Result<(), Fail> {
+fn parties(rt: HostRuntime) -> Result<(), Fail> {
+    check_parties(&rt)
+}
+
+fn check_seats(rt: &(impl AllocGlobal + Abort)) -> Result<(), Fail> {
     let alloc = rt.alloc();
     // bg_party
     let mut seat = Seat::fresh(alloc, Player::X, 1, 5, Rules::One)?;
@@ -171,7 +191,11 @@ fn seats(rt: HostRuntime) -> Result<(), Fail> {
 }
 
 #[test]
-fn worlds(rt: HostRuntime) -> Result<(), Fail> {
+fn seats(rt: HostRuntime) -> Result<(), Fail> {
+    check_seats(&rt)
+}
+
+fn check_worlds(rt: &(impl AllocGlobal + Abort)) -> Result<(), Fail> {
     let alloc = rt.alloc();
     // bg_world
     let setup = Setup {
@@ -194,6 +218,11 @@ fn worlds(rt: HostRuntime) -> Result<(), Fail> {
     assert!(rt; outcome == Outcome::Sent(1) && outcome_text(&outcome).as_str() == "sent 1");
     // end
     Ok(())
+}
+
+#[test]
+fn worlds(rt: HostRuntime) -> Result<(), Fail> {
+    check_worlds(&rt)
 }
 
 #[test]

@@ -1,5 +1,6 @@
 //! The calls of automatic players and of their matches, each in one short function with no
 //! contract.
+use crate::checks::check;
 use bg_auto::{auto_action, sim_text};
 use bg_board::Player;
 use bg_match::{Action, Record, Rules};
@@ -21,7 +22,7 @@ pub(crate) fn action(
 /// The entry of this line is the next one.
 pub(crate) fn push(rt: &impl Abort, record: &mut Record, line: &str) {
     let (_, entry) = parse_entry(line.as_bytes()).expect(rt, "the line of an entry");
-    assert!(rt; record.push(entry).is_ok(), "{line}");
+    check(rt, line, record.push(entry).is_ok());
 }
 
 /// A record of no entry.

@@ -1,6 +1,6 @@
 //! What automatic players do.
 use super::actions::{action, empty_record, push};
-use crate::checks::lasting;
+use crate::checks::{check, lasting};
 use crate::sections::{lines_of, names_of};
 use bg_board::{Die, Player};
 use bg_match::{Action, Entry, Level, MOST_ENTRIES, Record, Rules};
@@ -144,9 +144,9 @@ fn check_line(rt: &(impl AllocGlobal + Abort), record: &mut Record, line: &str) 
     if let Some(count) = line.strip_prefix("offers ") {
         offer(rt, record, count.parse().expect(rt, "a number"));
     } else if let Some(words) = line.strip_prefix("X: ") {
-        assert!(rt; does_words(rt, record, Player::X, words), "{line}");
+        check(rt, line, does_words(rt, record, Player::X, words));
     } else if let Some(words) = line.strip_prefix("O: ") {
-        assert!(rt; does_words(rt, record, Player::O, words), "{line}");
+        check(rt, line, does_words(rt, record, Player::O, words));
     } else {
         push(rt, record, line);
     }
@@ -213,17 +213,21 @@ fn check_next_turn(rt: &(impl AllocGlobal + Abort), record: &Record) {
     check_action(rt, record, Player::X, Some(&expected));
 }
 
+fn check_full_record(rt: &(impl AllocGlobal + Abort)) {
+    let record = record_that_lasts(rt, 1);
+    push(rt, record, "open 3 1");
+    offer(rt, record, 499_999);
+    assert!(rt; moves(rt, record));
+    push(rt, record, "X resign normal");
+    assert!(rt; record.len() == MOST_ENTRIES);
+    check_idle(rt, record, Player::X);
+    check_idle(rt, record, Player::O);
+}
+
 /// Nothing follows a full record.
 #[test]
 fn full_record(rt: HostRuntime) {
-    let record = record_that_lasts(&rt, 1);
-    push(&rt, record, "open 3 1");
-    offer(&rt, record, 499_999);
-    assert!(rt; moves(&rt, record));
-    push(&rt, record, "X resign normal");
-    assert!(rt; record.len() == MOST_ENTRIES);
-    check_idle(&rt, record, Player::X);
-    check_idle(&rt, record, Player::O);
+    check_full_record(&rt);
 }
 
 /// Whether X moves.

@@ -1,6 +1,7 @@
 //! Matches in rounds over devices that have something as they begin, and the comparison of their
 //! calls with texts.
 use super::round_calls::{CALLS, SHARED_CALLS};
+use crate::checks::check;
 use crate::devices::keepers::OwnKeeper;
 use crate::devices::links::OwnLink;
 use crate::devices::{Failing, NO_FAILURE, Recorder};
@@ -125,7 +126,7 @@ fn check_lines(rt: &impl Abort, calls: &str, lines: &[&str], name: &str) {
         let call = calls.next().unwrap_or("no call");
         assert!(rt; call == *expected, "{name}: {expected}, and not {call}");
     }
-    assert!(rt; calls.next().is_none(), "{name}");
+    check(rt, name, calls.next().is_none());
 }
 
 /// What became of the rounds of this name.
@@ -135,7 +136,7 @@ fn check_result(
     expected: &Result<(), LoopFault>,
     name: &str,
 ) {
-    assert!(rt; found == expected, "{name}");
+    check(rt, name, found == expected);
 }
 
 /// So many rounds of a match make the calls of the section of this name, and come to this.

@@ -70,8 +70,7 @@ fn game_is_opened_in_the_round_that_ends_the_last(rt: HostRuntime) {
     check_rounds(&rt, name, 7, 3, 2, &devices, &Ok(()));
 }
 
-#[test]
-fn party_restarts_where_its_save_fails(rt: HostRuntime) {
+fn check_party_restarts_where_its_save_fails(rt: &(impl AllocGlobal + Abort)) {
     for (name, party) in [
         ("referee_restarts_where_its_save_fails", 0),
         ("x_restarts_where_its_save_fails", 1),
@@ -81,12 +80,16 @@ fn party_restarts_where_its_save_fails(rt: HostRuntime) {
             failing: tearing(party, 2, None),
             ..UNUSED
         };
-        check(&rt, name, X_BEGINS, 2, &devices);
+        check(rt, name, X_BEGINS, 2, &devices);
     }
 }
 
 #[test]
-fn slots_of_one_byte_stop_the_match(rt: HostRuntime) {
+fn party_restarts_where_its_save_fails(rt: HostRuntime) {
+    check_party_restarts_where_its_save_fails(&rt);
+}
+
+fn check_slots_of_one_byte_stop_the_match(rt: &(impl AllocGlobal + Abort)) {
     let damaged = Outcome::RestoreFault(RestoreCause::Damaged);
     let stopped = Err(LoopFault::Stopped(damaged));
     for (name, party) in [
@@ -100,6 +103,11 @@ fn slots_of_one_byte_stop_the_match(rt: HostRuntime) {
             1 => devices.of_x = ONE_BYTE,
             _ => devices.of_o = ONE_BYTE,
         }
-        check_rounds(&rt, name, X_BEGINS, 1, 4, &devices, &stopped);
+        check_rounds(rt, name, X_BEGINS, 1, 4, &devices, &stopped);
     }
+}
+
+#[test]
+fn slots_of_one_byte_stop_the_match(rt: HostRuntime) {
+    check_slots_of_one_byte_stop_the_match(&rt);
 }

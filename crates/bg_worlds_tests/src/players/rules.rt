@@ -36,10 +36,14 @@ fn nobody_plays_a_turn_that_is_passed(rt: HostRuntime) {
     assert!(rt; !acts(&rt, Rules::Two, Player::X) && !acts(&rt, Rules::Two, Player::O));
 }
 
+fn check_automatic_match_by_the_second_rules(rt: &(impl AllocGlobal + Abort)) {
+    let text = text_of(rt.alloc(), 4, 1, Rules::Two, 1, 4000).expect(rt, "memory");
+    let text = text_in(rt, &text);
+    assert!(rt; text.starts_with("length 1 rules 2\nopen "));
+    check_transcript(rt, transcript_in(rt, text));
+}
+
 #[test]
 fn automatic_match_by_the_second_rules(rt: HostRuntime) {
-    let text = text_of(rt.alloc(), 4, 1, Rules::Two, 1, 4000).expect(&rt, "memory");
-    let text = text_in(&rt, &text);
-    assert!(rt; text.starts_with("length 1 rules 2\nopen "));
-    check_transcript(&rt, transcript_in(&rt, text));
+    check_automatic_match_by_the_second_rules(&rt);
 }

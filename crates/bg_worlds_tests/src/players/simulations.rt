@@ -1,6 +1,6 @@
 //! Automatic matches.
 use super::actions::{action, check_transcript, empty_record, text_in, text_of, transcript_in};
-use crate::checks::{check_no_growth_is_left, check_row};
+use crate::checks::{check, check_no_growth_is_left, check_row};
 use bg_board::{Die, Player};
 use bg_match::{Action, Entry, Rules};
 use bg_streams::EngineFault;
@@ -81,7 +81,7 @@ fn check_parties(rt: &impl Abort, text: &str) {
     let mut most = None;
     for line in text.lines() {
         if let Some(count) = count_in(rt, line) {
-            assert!(rt; count <= most.unwrap_or(count), "{line}");
+            check(rt, line, count <= most.unwrap_or(count));
             most = most.or(Some(count));
         }
     }
@@ -165,10 +165,8 @@ fn refused_growths_of_a_match(rt: HostRuntime) -> Result<(), Fail> {
     check_no_growth_is_left(rt.alloc())
 }
 
-/// An automatic player lacks memory for nothing but the list of legal turns.
-#[test]
-fn refused_growths_of_an_action(rt: HostRuntime) -> Result<(), Fail> {
-    let mut record = empty_record(&rt, 1, Rules::One);
+fn check_refused_growths_of_an_action(rt: &(impl AllocGlobal + Abort)) -> Result<(), Fail> {
+    let mut record = empty_record(rt, 1, Rules::One);
     if record.push(Entry::Opening(Die::Three, Die::One)).is_err() {
         record.push(Entry::Opening(Die::Three, Die::One))?;
     }
@@ -178,4 +176,10 @@ fn refused_growths_of_an_action(rt: HostRuntime) -> Result<(), Fail> {
     };
     assert!(rt; matches!(found, Some(Action::Move(_))));
     check_no_growth_is_left(rt.alloc())
+}
+
+/// An automatic player lacks memory for nothing but the list of legal turns.
+#[test]
+fn refused_growths_of_an_action(rt: HostRuntime) -> Result<(), Fail> {
+    check_refused_growths_of_an_action(&rt)
 }

@@ -1,6 +1,6 @@
 //! The random words of automatic matches: of dice and of events, and how they follow each other.
 use super::actions::text_of;
-use crate::checks::check_row;
+use crate::checks::{check_number, check_row};
 use bg_auto::{DiceAttempts, Simulation, dice_word, event_words};
 use bg_match::{Number, Rules};
 use bg_referee::{DueFault, TakeOutcome};
@@ -106,9 +106,11 @@ fn follows(
 
 /// An attempt whose event came to this is followed by that one.
 fn check_attempt(rt: &impl Abort, attempt: u16, outcome: &Outcome, after: u16) {
-    assert!(rt;
+    check_number(
+        rt,
+        "attempt",
+        attempt.into(),
         follows(attempt, false, outcome, 4, (4, after)),
-        "attempt {attempt}"
     );
 }
 
@@ -164,7 +166,7 @@ fn text_of_steps(rt: &(impl AllocGlobal + Abort), seed: u64, steps: u32) -> Vec<
 
 fn make_steps(rt: &impl Abort, simulation: &mut Simulation, steps: u32) {
     for index in 0..steps {
-        assert!(rt; simulation.step(index).is_ok(), "event {index}");
+        check_number(rt, "event", index.into(), simulation.step(index).is_ok());
     }
 }
 

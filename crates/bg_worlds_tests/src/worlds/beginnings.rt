@@ -1,5 +1,5 @@
 //! How processes of nodes begin: over which slots, and with which lengths.
-use crate::checks::lasting;
+use crate::checks::{check, check_number, lasting};
 use crate::devices::keepers::OwnKeeper;
 use crate::devices::{NO_FAILURE, Recorder};
 use crate::worlds::parties::{ID, TERMS, begun_referee, begun_seat};
@@ -91,7 +91,7 @@ fn check_restored(
     one: &[u8],
     entries: Number,
 ) {
-    assert!(rt; referee_over(rt, zero, one) == Ok(entries), "{row}");
+    check(rt, row, referee_over(rt, zero, one) == Ok(entries));
 }
 
 /// A referee that begins over these slots is down.
@@ -102,26 +102,30 @@ fn check_down(
     one: &[u8],
     cause: RestoreCause,
 ) {
-    assert!(rt; referee_over(rt, zero, one) == Err(cause), "{row}");
+    check(rt, row, referee_over(rt, zero, one) == Err(cause));
+}
+
+fn check_processes_begin(rt: &(impl AllocGlobal + Abort)) {
+    let text = text_of(rt, ID, Rules::One);
+    let another = text_of(rt, ID + 1, Rules::One);
+    let other_rules = text_of(rt, ID, Rules::Two);
+    let torn = text.get(..20).expect(rt, "a text of 33 bytes");
+    check_restored(rt, "empty", b"", b"", 0);
+    check_restored(rt, "empty and a text", b"", text, 1);
+    check_restored(rt, "torn and a text", torn, text, 1);
+    check_restored(rt, "empty and torn", b"", torn, 0);
+    check_down(rt, "torn", torn, torn, RestoreCause::Damaged);
+    check_down(rt, "torn and empty", torn, b"", RestoreCause::Damaged);
+    let wrong = RestoreCause::WrongMatch;
+    check_down(rt, "another match", b"", another, wrong);
+    check_down(rt, "other rules", b"", other_rules, wrong);
+    // A seat doesn't sit down on what the referee saved.
+    assert!(rt; refusal_of_seat(rt, b"", text) == Some(wrong));
 }
 
 #[test]
 fn processes_begin(rt: HostRuntime) {
-    let text = text_of(&rt, ID, Rules::One);
-    let another = text_of(&rt, ID + 1, Rules::One);
-    let other_rules = text_of(&rt, ID, Rules::Two);
-    let torn = text.get(..20).expect(&rt, "a text of 33 bytes");
-    check_restored(&rt, "empty", b"", b"", 0);
-    check_restored(&rt, "empty and a text", b"", text, 1);
-    check_restored(&rt, "torn and a text", torn, text, 1);
-    check_restored(&rt, "empty and torn", b"", torn, 0);
-    check_down(&rt, "torn", torn, torn, RestoreCause::Damaged);
-    check_down(&rt, "torn and empty", torn, b"", RestoreCause::Damaged);
-    let wrong = RestoreCause::WrongMatch;
-    check_down(&rt, "another match", b"", another, wrong);
-    check_down(&rt, "other rules", b"", other_rules, wrong);
-    // A seat doesn't sit down on what the referee saved.
-    assert!(rt; refusal_of_seat(&rt, b"", text) == Some(wrong));
+    check_processes_begin(&rt);
 }
 
 /// No party of a match of this length begins.
@@ -130,17 +134,23 @@ fn check_length(rt: &(impl AllocGlobal + Abort), length: u8) {
     let refused = Some(LengthFault::LengthOutOfRange);
     let of_referee = keeper(rt, 0, b"", b"");
     let of_seat = keeper(rt, 2, b"", b"");
-    assert!(rt;
+    check_number(
+        rt,
+        "length",
+        length.into(),
         begun_referee(rt.alloc(), terms, of_referee).err() == refused,
-        "length {length}"
     );
-    assert!(rt;
+    check_number(
+        rt,
+        "length",
+        length.into(),
         begun_seat(rt.alloc(), Player::O, terms, of_seat).err() == refused,
-        "length {length}"
     );
-    assert!(rt;
+    check_number(
+        rt,
+        "length",
+        length.into(),
         WatcherNode::fresh(rt.alloc(), 3, ID, terms).err() == refused,
-        "length {length}"
     );
 }
 

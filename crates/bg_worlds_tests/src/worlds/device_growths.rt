@@ -1,6 +1,6 @@
 //! The devices in memory where memory is refused. No run of the tests refuses any, but
 //! `tools/checks/refuse_growths` refuses each growth in turn.
-use crate::checks::{check_no_growth_is_left, check_party};
+use crate::checks::{check_no_growth_is_left, check_number, check_party};
 use crate::worlds::lines::check_outcome;
 use crate::worlds::memory_worlds::{
     MemoryWorld, check_line, check_lines, happen, held, sent_to, step, world_of,
@@ -50,7 +50,7 @@ fn sent_at_last(rt: &impl Abort, world: &mut MemoryWorld, to: u8, event: &Event)
 /// comes back with what it had saved, so many entries, or opens a game anew.
 fn check_save_at_last(rt: &impl Abort, world: &mut MemoryWorld, save: u32) {
     let outcome = saved_at_last(rt, world, save);
-    assert!(rt; outcome == Outcome::Saved(save), "save {save}");
+    check_number(rt, "save", save.into(), outcome == Outcome::Saved(save));
 }
 
 /// What the referee's save comes to, once more where there was no memory for it.
@@ -86,19 +86,17 @@ fn check_answer(rt: &impl Abort, world: &mut MemoryWorld, party: u8, restart: &s
     check_send_at_last(rt, world, party, &take, answer);
 }
 
-/// Where memory is refused nothing changes and the same send then succeeds.
-#[test]
-fn refused_growths_of_sends(rt: HostRuntime) -> Result<(), Fail> {
-    let world = world_of(&rt, &["watchers 1"]);
-    check_at_last(&rt, world, "due 12 -> entry 1");
-    check_save_at_last(&rt, world, 1);
+fn check_refused_growths_of_sends(rt: &(impl AllocGlobal + Abort)) -> Result<(), Fail> {
+    let world = world_of(rt, &["watchers 1"]);
+    check_at_last(rt, world, "due 12 -> entry 1");
+    check_save_at_last(rt, world, 1);
     for _ in 0..6 {
         for (party, restart, answer) in [
             (1, "restart 1 -> restarted", "answer to 1: entries 1 to 1"),
             (2, "restart 2 -> restarted", "answer to 2: entries 1 to 1"),
             (3, "restart 3 -> restarted", "answer to 3: entries 1 to 1"),
         ] {
-            check_answer(&rt, world, party, restart, answer);
+            check_answer(rt, world, party, restart, answer);
         }
     }
     let counts = [
@@ -107,15 +105,21 @@ fn refused_growths_of_sends(rt: HostRuntime) -> Result<(), Fail> {
         "sent to 2: 6",
         "sent to 3: 6",
     ];
-    check_lines(&rt, world, &counts);
+    check_lines(rt, world, &counts);
     for row in [
         "take 1 5 0 -> learned 1",
         "take 2 5 0 -> learned 1",
         "take 3 5 0 -> learned 1",
     ] {
-        check_at_last(&rt, world, row);
+        check_at_last(rt, world, row);
     }
     check_no_growth_is_left(rt.alloc())
+}
+
+/// Where memory is refused nothing changes and the same send then succeeds.
+#[test]
+fn refused_growths_of_sends(rt: HostRuntime) -> Result<(), Fail> {
+    check_refused_growths_of_sends(&rt)
 }
 
 /// A send that fails and goes nowhere wants no memory.

@@ -1,4 +1,5 @@
 //! Lines of events of each kind, and lines of each fault.
+use crate::checks::check;
 use bg_board::{Player, Step};
 use bg_match::{Action, Level};
 use bg_text::TextFault;
@@ -12,20 +13,20 @@ fn parsed(line: &str) -> Result<Event, TextFault> {
 }
 
 /// The line is read as this event.
-fn check(rt: &impl Abort, line: &str, event: &Event) {
-    assert!(rt; parsed(line).as_ref() == Ok(event), "{line}");
+fn check_event(rt: &impl Abort, line: &str, event: &Event) {
+    check(rt, line, parsed(line).as_ref() == Ok(event));
 }
 
 /// The line is read as this event of a party.
 fn check_take(rt: &impl Abort, line: &str, party: u8, pick: u32, word: u32) {
-    check(rt, line, &Event::Take { party, pick, word });
+    check_event(rt, line, &Event::Take { party, pick, word });
 }
 
 #[test]
 fn lines_of_numbers(rt: HostRuntime) {
-    check(&rt, "due 12", &Event::Due { word: 12 });
-    check(&rt, "due 0", &Event::Due { word: 0 });
-    check(&rt, "due 4294967295", &Event::Due { word: u32::MAX });
+    check_event(&rt, "due 12", &Event::Due { word: 12 });
+    check_event(&rt, "due 0", &Event::Due { word: 0 });
+    check_event(&rt, "due 4294967295", &Event::Due { word: u32::MAX });
     check_take(&rt, "take 3 1 20", 3, 1, 20);
     check_take(
         &rt,
@@ -34,14 +35,14 @@ fn lines_of_numbers(rt: HostRuntime) {
         u32::MAX,
         u32::MAX,
     );
-    check(&rt, "save 0", &Event::Save { party: 0 });
-    check(&rt, "tick 255", &Event::Tick { party: 255 });
-    check(&rt, "restart 10", &Event::Restart { party: 10 });
+    check_event(&rt, "save 0", &Event::Save { party: 0 });
+    check_event(&rt, "tick 255", &Event::Tick { party: 255 });
+    check_event(&rt, "restart 10", &Event::Restart { party: 10 });
 }
 
 /// The line is read as this choice of a player.
 fn check_choice(rt: &impl Abort, line: &str, seat: Player, action: Action) {
-    check(rt, line, &Event::Choose { seat, action });
+    check_event(rt, line, &Event::Choose { seat, action });
 }
 
 /// Adds a step to a turn; whether it is one, and has room.
@@ -111,7 +112,7 @@ choose X move 8-9 6-5 4-3 3-2 2-1";
 fn check_refused(rt: &impl Abort, lines: &str, count: u32, fault: TextFault) {
     let mut refused = 0u32;
     for line in lines.split('\n') {
-        assert!(rt; parsed(line) == Err(fault), "{line}");
+        check(rt, line, parsed(line) == Err(fault));
         refused = refused.saturating_add(1);
     }
     assert!(rt; refused == count, "{refused} lines");

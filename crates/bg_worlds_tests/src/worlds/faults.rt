@@ -158,16 +158,20 @@ fn run(world: &mut MemoryWorld, events: &[Event]) -> RunReport {
     world.run(events)
 }
 
-/// No fault ends a run.
-#[test]
-fn runs_count_faults(rt: HostRuntime) {
-    let events = events_of(&rt, &lines_of(&rt, PLAYS, "failed_writes"));
-    let world = world_of(&rt, &["fails: write 2 1 none"]);
+fn check_runs_count_faults(rt: &(impl AllocGlobal + Abort)) {
+    let events = events_of(rt, &lines_of(rt, PLAYS, "failed_writes"));
+    let world = world_of(rt, &["fails: write 2 1 none"]);
     let expected = RunReport {
         done: 8,
         memory: 0,
         faults: 1,
     };
     assert!(rt; run(world, events) == expected);
-    check_line(&rt, world, "held: 0 0 0");
+    check_line(rt, world, "held: 0 0 0");
+}
+
+/// No fault ends a run.
+#[test]
+fn runs_count_faults(rt: HostRuntime) {
+    check_runs_count_faults(&rt);
 }

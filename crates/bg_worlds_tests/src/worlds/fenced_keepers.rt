@@ -1,7 +1,7 @@
 //! A keeper in memory behind a fence: which writes it takes, what its slots have then, and nodes
 //! that share it.
 
-use crate::checks::lasting;
+use crate::checks::{check, check_number, lasting};
 use crate::worlds::parties::{ID, TERMS, begun_referee, begun_seat};
 use crate::worlds::setups::{parted, small_number};
 use bg_board::Player;
@@ -76,10 +76,7 @@ fn check_write(rt: &(impl AllocGlobal + Abort), keeper: &mut FencedMemoryKeeper,
     let (slot, expected) = parted(rt, rest, " ");
     let text = text_of(rt, small_number(rt, number).into());
     let slot = if slot == "0" { Slot::Zero } else { Slot::One };
-    assert!(rt;
-        writes(rt, keeper, slot, text, expected == "taken"),
-        "{row}"
-    );
+    check(rt, row, writes(rt, keeper, slot, text, expected == "taken"));
 }
 
 #[test]
@@ -118,7 +115,7 @@ fn check_next(rt: &(impl AllocGlobal + Abort), zero: &[u8], one: &[u8], number: 
     let (equal, next) = (number.saturating_sub(1), number);
     let is_refused = writes(rt, keeper, Slot::of(equal), text_of(rt, equal), false);
     let is_taken = writes(rt, keeper, Slot::of(next), text_of(rt, next), true);
-    assert!(rt; is_refused && is_taken, "{number}");
+    check_number(rt, "save", number.into(), is_refused && is_taken);
 }
 
 #[test]
@@ -182,10 +179,9 @@ fn hold_the_same(first: &RefereeNode, second: &RefereeNode) -> bool {
     }
 }
 
-#[test]
-fn two_referees(rt: HostRuntime) {
-    let keeper = keeper(&rt, b"", b"");
-    let (first, second) = (referee(&rt, keeper), referee(&rt, keeper));
+fn check_two_referees(rt: &(impl AllocGlobal + Abort)) {
+    let keeper = keeper(rt, b"", b"");
+    let (first, second) = (referee(rt, keeper), referee(rt, keeper));
     open(first, 12);
     open(second, 2);
     assert!(rt; !hold_the_same(first, second));
@@ -195,6 +191,11 @@ fn two_referees(rt: HostRuntime) {
     assert!(rt; saved(second, keeper) == Outcome::Saved(2));
     // The node's own call is refused too.
     assert!(rt; saved_alone(first, keeper) == Outcome::SaveFault);
+}
+
+#[test]
+fn two_referees(rt: HostRuntime) {
+    check_two_referees(&rt);
 }
 
 /// A seat saves.
@@ -207,12 +208,16 @@ fn seat_restarts(node: &mut SeatNode, keeper: &mut FencedMemoryKeeper) -> bool {
     node.restart(keeper) == Outcome::Restarted
 }
 
-#[test]
-fn two_seats(rt: HostRuntime) {
-    let keeper = keeper(&rt, b"", b"");
-    let (first, second) = (seat(&rt, keeper), seat(&rt, keeper));
+fn check_two_seats(rt: &(impl AllocGlobal + Abort)) {
+    let keeper = keeper(rt, b"", b"");
+    let (first, second) = (seat(rt, keeper), seat(rt, keeper));
     assert!(rt; seat_saved(first, keeper) == Outcome::Saved(1));
     assert!(rt; seat_saved(second, keeper) == Outcome::SaveFault && second.held().is_none());
     assert!(rt; seat_restarts(second, keeper));
     assert!(rt; seat_saved(second, keeper) == Outcome::Saved(2));
+}
+
+#[test]
+fn two_seats(rt: HostRuntime) {
+    check_two_seats(&rt);
 }

@@ -6,7 +6,7 @@ mod calls;
 mod holed_keepers;
 mod stores;
 
-use crate::checks::lasting;
+use crate::checks::{check_number, lasting};
 use crate::devices::links::OwnLink;
 use crate::devices::{NO_FAILURE, Recorder};
 use crate::fronts::is_front;
@@ -204,11 +204,10 @@ fn fenced(alloc: Global) -> Keepers<FencedMemoryKeeper> {
     }
 }
 
-#[test]
-fn processes_behind_a_fence(rt: HostRuntime) {
+fn check_processes_behind_a_fence(rt: &(impl AllocGlobal + Abort)) {
     for seed in 0..6 {
-        let came = played(&rt, recorder(&rt), seed, fenced(rt.alloc()));
-        assert!(rt; came.agreed, "seed {seed}");
+        let came = played(rt, recorder(rt), seed, fenced(rt.alloc()));
+        check_number(rt, "seed", seed.into(), came.agreed);
         assert!(rt;
             came.settled > 9 && came.refused > 9,
             "seed {seed}: {} {}",
@@ -216,6 +215,11 @@ fn processes_behind_a_fence(rt: HostRuntime) {
             came.refused
         );
     }
+}
+
+#[test]
+fn processes_behind_a_fence(rt: HostRuntime) {
+    check_processes_behind_a_fence(&rt);
 }
 
 /// Keepers whose fences have a hole.

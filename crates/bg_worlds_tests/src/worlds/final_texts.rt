@@ -1,5 +1,5 @@
 //! What is printed of worlds in the end.
-use crate::checks::check_no_growth_is_left;
+use crate::checks::{check, check_no_growth_is_left};
 use crate::worlds::memory_worlds::{MemoryWorld, played, world_of};
 use bg_world::final_text;
 use std::alloc::AllocError;
@@ -84,7 +84,7 @@ fn check_final(rt: &impl Abort, world: &MemoryWorld, name: &str, expected: &str)
         Ok(text) => text,
         Err(AllocError) => text_of(world).expect(rt, "memory"),
     };
-    assert!(rt; text.as_slice() == expected.as_bytes(), "{name}");
+    check(rt, name, text.as_slice() == expected.as_bytes());
 }
 
 #[test]

@@ -1,5 +1,5 @@
 //! The link in memory: what it hands over and counts, and which of its sends fail.
-use crate::checks::check_row;
+use crate::checks::{check_number, check_row};
 use crate::fronts::is_front;
 use crate::worlds::lines::has_line;
 use crate::worlds::memory_worlds::{
@@ -169,16 +169,20 @@ answer to 3: entries 1 to 6
 answer to 3: entries 1 to 7
 answer to 3: entries 1 to 8";
 
+fn check_texts_of_many_lengths(rt: &(impl AllocGlobal + Abort)) {
+    let world = played(rt, THE_OPENING, "the_opening", None);
+    check_many_lengths(rt, world);
+    for index in [7, 0, 3, 1, 6, 2, 5, 4] {
+        check_number(rt, "datagram", index.into(), learns(rt, world, index));
+    }
+}
+
 /// Texts of eight lengths, from 21 bytes to 32, are handed over as they were sent, though they are
 /// kept one behind the other: an opening, and then by turns an offer to resign and its rejection,
 /// from one entry to eight.
 #[test]
 fn texts_of_many_lengths(rt: HostRuntime) {
-    let world = played(&rt, THE_OPENING, "the_opening", None);
-    check_many_lengths(&rt, world);
-    for index in [7, 0, 3, 1, 6, 2, 5, 4] {
-        assert!(rt; learns(&rt, world, index), "datagram {index}");
-    }
+    check_texts_of_many_lengths(&rt);
 }
 
 /// The watcher is answered with an entry more each time.

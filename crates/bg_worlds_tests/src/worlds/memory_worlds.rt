@@ -11,7 +11,7 @@
 //!
 //! Each call of a world stands in one short function with no contract, so that what the call
 //! ensures does not burden the proofs of the tests.
-use crate::checks::lasting;
+use crate::checks::{check, lasting};
 use crate::sections::names_of;
 use crate::worlds::lines::{check_outcome, event, lines_of};
 use crate::worlds::setups::{number, parted, plan_of, setup_of, small_number};
@@ -132,10 +132,7 @@ fn check_entry(rt: &impl Abort, world: &MemoryWorld, line: &str) {
     let (place, entry) = parted(rt, line, ": ");
     let (index, party) = parted(rt, place, " of ");
     let record = record_of(world, small_number(rt, party)).expect(rt, "a party that is up");
-    assert!(rt;
-        has_entry(rt, record, number(rt, index), entry),
-        "entry {line}"
-    );
+    check(rt, line, has_entry(rt, record, number(rt, index), entry));
 }
 
 /// The event of a row comes to what the row says.
@@ -158,7 +155,7 @@ pub(crate) fn check_line(rt: &impl Abort, world: &mut MemoryWorld, line: &str) {
         let makes = line.starts_with("length ")
             || line.starts_with("watchers ")
             || line.starts_with("fails: ");
-        assert!(rt; makes, "{line}");
+        check(rt, line, makes);
     }
 }
 

@@ -2,7 +2,7 @@
 //! world and through nodes.
 ghost use Rattle.std.specs.Prelude.{◌<◌, ◌≤◌};
 
-use crate::checks::{check_no_growth_is_left, check_party, check_row};
+use crate::checks::{check, check_no_growth_is_left, check_party, check_row};
 use crate::devices::{NO_FAILURE, Recorder};
 use crate::fronts::is_front;
 use crate::worlds::lines::{event, lines_of};
@@ -146,19 +146,23 @@ const CLAIM: [u8; 24] = [
     0x00, 0x02, 0x06, 0x02, 0x08, 0x05, 0x06, 0x05,
 ];
 
+fn check_a_claim_over_two_processes(rt: &(impl AllocGlobal + Abort)) {
+    let recorder = Recorder::that_lasts(rt, rt.alloc(), NO_FAILURE);
+    let mut parties = played(rt, recorder, "to_the_choice");
+    assert!(rt; claims_a_move(&mut parties));
+    assert!(rt; parties.claim(Player::O).is_none());
+    parties.check_rows(rt, &lines_of(rt, PLAYS, "a_claim_over_two_processes"));
+    assert!(rt; claims_a_move(&mut parties));
+    assert!(rt; is_taken(&mut *parties.link, 2, &CLAIM));
+    assert!(rt; sends(&mut *parties.link, &CLAIM));
+    parties.check_rows(rt, &["take 0 3 0 -> accepted 2", "take 0 2 0 -> nothing"]);
+}
+
 /// A seat's claim is kept over the end of its process, and told by the next one, byte for byte. It
 /// counts once, also where somebody else repeats it.
 #[test]
 fn a_claim_over_two_processes(rt: HostRuntime) {
-    let recorder = Recorder::that_lasts(&rt, rt.alloc(), NO_FAILURE);
-    let mut parties = played(&rt, recorder, "to_the_choice");
-    assert!(rt; claims_a_move(&mut parties));
-    assert!(rt; parties.claim(Player::O).is_none());
-    parties.check_rows(&rt, &lines_of(&rt, PLAYS, "a_claim_over_two_processes"));
-    assert!(rt; claims_a_move(&mut parties));
-    assert!(rt; is_taken(&mut *parties.link, 2, &CLAIM));
-    assert!(rt; sends(&mut *parties.link, &CLAIM));
-    parties.check_rows(&rt, &["take 0 3 0 -> accepted 2", "take 0 2 0 -> nothing"]);
+    check_a_claim_over_two_processes(&rt);
 }
 
 /// Five parties, whose first try may lack memory.
@@ -182,21 +186,25 @@ fn check_fronts(rt: &impl Abort, parties: &Parties) {
     }
 }
 
+fn check_refused_growths_of_nodes(rt: &(impl AllocGlobal + Abort)) -> Result<(), Fail> {
+    let recorder = Recorder::that_lasts(rt, rt.alloc(), NO_FAILURE);
+    let mut parties = begin_at_last(rt, recorder)?;
+    check_all_fronts(rt, &mut parties, &lines_of(rt, PLAYS, "with_a_watcher"));
+    check_no_growth_is_left(rt.alloc())
+}
+
 /// No run of the tests refuses any growth, but `tools/checks/refuse_growths` refuses each in turn:
 /// then what a party holds is still a front of what the referee does.
 #[test]
 fn refused_growths_of_nodes(rt: HostRuntime) -> Result<(), Fail> {
-    let recorder = Recorder::that_lasts(&rt, rt.alloc(), NO_FAILURE);
-    let mut parties = begin_at_last(&rt, recorder)?;
-    check_all_fronts(&rt, &mut parties, &lines_of(&rt, PLAYS, "with_a_watcher"));
-    check_no_growth_is_left(rt.alloc())
+    check_refused_growths_of_nodes(&rt)
 }
 
 /// What parties hold is a front of what the referee does, after each event of these rows.
 fn check_all_fronts(rt: &impl Abort, parties: &mut Parties, rows: &[&str]) {
     for row in rows {
         let (words, _) = row.split_once(" -> ").expect(rt, "a row");
-        assert!(rt; is_there(rt, parties, words), "{row}");
+        check(rt, row, is_there(rt, parties, words));
         check_fronts(rt, parties);
     }
 }

@@ -1,4 +1,5 @@
 //! The line of each outcome, and matches of length 1 whose events and outcomes are lines.
+use crate::checks::check;
 use crate::worlds::lines::has_line;
 use crate::worlds::memory_worlds::check_plays;
 use arrayvec::ArrayVec;
@@ -11,13 +12,12 @@ use bg_world::{Outcome, RestoreCause};
 use std::process::Abort;
 
 /// The outcome has this line.
-fn check(rt: &impl Abort, outcome: Outcome, line: &str) {
-    assert!(rt; has_line(&outcome, line), "{line}");
+fn check_outcome(rt: &impl Abort, outcome: Outcome, line: &str) {
+    check(rt, line, has_line(&outcome, line));
 }
 
-#[test]
-fn lines_of_due(rt: HostRuntime) {
-    check(&rt, Outcome::Due(Ok(1_000_000)), "entry 1000000");
+fn check_lines_of_due(rt: &(impl AllocGlobal + Abort)) {
+    check_outcome(rt, Outcome::Due(Ok(1_000_000)), "entry 1000000");
     for (fault, line) in [
         (DueFault::NothingDue, "due refused: nothing due"),
         (DueFault::WordRefused, "due refused: word refused"),
@@ -25,22 +25,26 @@ fn lines_of_due(rt: HostRuntime) {
         (DueFault::RecordFull, "due refused: record full"),
         (DueFault::Memory, "out of memory"),
     ] {
-        check(&rt, Outcome::Due(Err(fault)), line);
+        check_outcome(rt, Outcome::Due(Err(fault)), line);
     }
+}
+
+#[test]
+fn lines_of_due(rt: HostRuntime) {
+    check_lines_of_due(&rt);
 }
 
 /// What the referee made of a packet has this line.
 fn check_took(rt: &impl Abort, took: TakeOutcome, line: &str) {
-    check(rt, Outcome::Took(took), line);
+    check_outcome(rt, Outcome::Took(took), line);
 }
 
-#[test]
-fn lines_of_the_referee(rt: HostRuntime) {
-    check_took(&rt, TakeOutcome::OtherMatch, "other match");
-    check_took(&rt, TakeOutcome::Nothing, "nothing");
-    check_took(&rt, TakeOutcome::Ahead, "ahead");
-    check_took(&rt, TakeOutcome::NotYourTurn, "not your turn");
-    check_took(&rt, TakeOutcome::WordRefused, "word refused");
+fn check_lines_of_the_referee(rt: &(impl AllocGlobal + Abort)) {
+    check_took(rt, TakeOutcome::OtherMatch, "other match");
+    check_took(rt, TakeOutcome::Nothing, "nothing");
+    check_took(rt, TakeOutcome::Ahead, "ahead");
+    check_took(rt, TakeOutcome::NotYourTurn, "not your turn");
+    check_took(rt, TakeOutcome::WordRefused, "word refused");
     for (fault, line) in [
         (
             EntryFault::Turn(TurnFault::LargerMustBePlayed),
@@ -52,10 +56,15 @@ fn lines_of_the_referee(rt: HostRuntime) {
         ),
         (EntryFault::MatchOver, "illegal: match over"),
     ] {
-        check_took(&rt, TakeOutcome::Illegal(fault), line);
+        check_took(rt, TakeOutcome::Illegal(fault), line);
     }
-    check_took(&rt, TakeOutcome::Memory, "out of memory");
-    check_took(&rt, TakeOutcome::Accepted(2), "accepted 2");
+    check_took(rt, TakeOutcome::Memory, "out of memory");
+    check_took(rt, TakeOutcome::Accepted(2), "accepted 2");
+}
+
+#[test]
+fn lines_of_the_referee(rt: HostRuntime) {
+    check_lines_of_the_referee(&rt);
 }
 
 #[test]
@@ -67,7 +76,7 @@ fn lines_of_answers(rt: HostRuntime) {
         held: 0,
     };
     let none = TakeOutcome::Answer(3, want);
-    check(&rt, Outcome::Took(none), "answer to 3: no entries");
+    check_outcome(&rt, Outcome::Took(none), "answer to 3: no entries");
     let empty = Packet::Entries {
         id: 1,
         rules: Rules::One,
@@ -77,11 +86,10 @@ fn lines_of_answers(rt: HostRuntime) {
         },
     };
     let empty = TakeOutcome::Answer(255, empty);
-    check(&rt, Outcome::Took(empty), "answer to 255: entries 2 to 1");
+    check_outcome(&rt, Outcome::Took(empty), "answer to 255: entries 2 to 1");
 }
 
-#[test]
-fn lines_of_followers(rt: HostRuntime) {
+fn check_lines_of_followers(rt: &(impl AllocGlobal + Abort)) {
     for (learned, line) in [
         (Learned::OtherMatch, "other match"),
         (Learned::Nothing, "nothing"),
@@ -91,9 +99,9 @@ fn lines_of_followers(rt: HostRuntime) {
         (Learned::Memory, "out of memory"),
         (Learned::Grew(8), "learned 8"),
     ] {
-        check(&rt, Outcome::Learned(learned), line);
+        check_outcome(rt, Outcome::Learned(learned), line);
     }
-    check(&rt, Outcome::Chose(Ok(2)), "claimed 2");
+    check_outcome(rt, Outcome::Chose(Ok(2)), "claimed 2");
     let crawford = EntryFault::NoDouble(NoDouble::Crawford);
     for (fault, line) in [
         (ChooseFault::NotYourTurn, "claim refused: not your turn"),
@@ -106,8 +114,13 @@ fn lines_of_followers(rt: HostRuntime) {
             "claim refused: no double: crawford",
         ),
     ] {
-        check(&rt, Outcome::Chose(Err(fault)), line);
+        check_outcome(rt, Outcome::Chose(Err(fault)), line);
     }
+}
+
+#[test]
+fn lines_of_followers(rt: HostRuntime) {
+    check_lines_of_followers(&rt);
 }
 
 #[test]
@@ -120,29 +133,33 @@ fn lines_of_no_packets(rt: HostRuntime) {
         (WireFault::Field(23), "no packet: bad field at 23"),
         (WireFault::Extra, "no packet: extra bytes"),
     ] {
-        check(&rt, Outcome::NotAPacket(fault), line);
+        check_outcome(&rt, Outcome::NotAPacket(fault), line);
     }
 }
 
-#[test]
-fn lines_of_devices(rt: HostRuntime) {
-    check(&rt, Outcome::Saved(u32::MAX), "saved 4294967295");
-    check(&rt, Outcome::SavesSpent, "saves spent");
-    check(&rt, Outcome::Sent(0), "sent 0");
-    check(&rt, Outcome::Restarted, "restarted");
-    check(&rt, Outcome::NoDatagram, "no datagram");
-    check(&rt, Outcome::Down, "down");
-    check(&rt, Outcome::NoSuchParty, "no such party");
-    check(&rt, Outcome::LinkFault, "link fault");
-    check(&rt, Outcome::SaveFault, "save fault");
+fn check_lines_of_devices(rt: &(impl AllocGlobal + Abort)) {
+    check_outcome(rt, Outcome::Saved(u32::MAX), "saved 4294967295");
+    check_outcome(rt, Outcome::SavesSpent, "saves spent");
+    check_outcome(rt, Outcome::Sent(0), "sent 0");
+    check_outcome(rt, Outcome::Restarted, "restarted");
+    check_outcome(rt, Outcome::NoDatagram, "no datagram");
+    check_outcome(rt, Outcome::Down, "down");
+    check_outcome(rt, Outcome::NoSuchParty, "no such party");
+    check_outcome(rt, Outcome::LinkFault, "link fault");
+    check_outcome(rt, Outcome::SaveFault, "save fault");
     for (cause, line) in [
         (RestoreCause::Device, "restore fault: device"),
         (RestoreCause::Damaged, "restore fault: damaged"),
         (RestoreCause::WrongMatch, "restore fault: wrong match"),
     ] {
-        check(&rt, Outcome::RestoreFault(cause), line);
+        check_outcome(rt, Outcome::RestoreFault(cause), line);
     }
-    check(&rt, Outcome::Memory, "out of memory");
+    check_outcome(rt, Outcome::Memory, "out of memory");
+}
+
+#[test]
+fn lines_of_devices(rt: HostRuntime) {
+    check_lines_of_devices(&rt);
 }
 
 /// What is refused, what is not taken, and between these what is.

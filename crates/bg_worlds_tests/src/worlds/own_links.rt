@@ -8,6 +8,7 @@ use crate::devices::{NO_FAILURE, Recorder};
 use arrayvec::ArrayVec;
 use bg_wire::{Datagram, MOST_DATAGRAM_BYTES, PacketBytes, REFEREE};
 use bg_world::{DeviceFault, Link, Taken};
+use std::process::Abort;
 
 /// Who knows nothing of a link but what every link promises is handed what the pick names, where
 /// there is a plan.
@@ -55,16 +56,20 @@ fn front(count: usize) -> &'static [u8] {
     BYTES.get(..count).unwrap_or(BYTES)
 }
 
+fn check_texts_of_each_length(rt: &(impl AllocGlobal + Abort)) {
+    let recorder = Recorder::that_lasts(rt, rt.alloc(), NO_FAILURE);
+    let link = lasting(rt.alloc(), OwnLink::by_picks(recorder)).expect(rt, "memory");
+    for count in 0..=MOST_DATAGRAM_BYTES {
+        check_row(rt, count, sends(link, front(count)));
+    }
+    for count in 0..=MOST_DATAGRAM_BYTES {
+        check_row(rt, count, is_taken(link, count as u32, front(count)));
+    }
+}
+
 /// A text of each length, from no byte to as many as a datagram may have, is handed over as it was
 /// sent, though texts of other lengths stand before it and behind it.
 #[test]
 fn texts_of_each_length(rt: HostRuntime) {
-    let recorder = Recorder::that_lasts(&rt, rt.alloc(), NO_FAILURE);
-    let link = lasting(rt.alloc(), OwnLink::by_picks(recorder)).expect(&rt, "memory");
-    for count in 0..=MOST_DATAGRAM_BYTES {
-        check_row(&rt, count, sends(link, front(count)));
-    }
-    for count in 0..=MOST_DATAGRAM_BYTES {
-        check_row(&rt, count, is_taken(link, count as u32, front(count)));
-    }
+    check_texts_of_each_length(&rt);
 }

@@ -135,11 +135,15 @@ fn check_good(
     check_script(rt, input.as_bytes(), watchers, Verdict::Fine(events), texts);
 }
 
+fn check_good_scripts(rt: &(impl AllocGlobal + Abort)) {
+    check_good(rt, A_TURN, 1, 16, [TEXT_OF_THE_TURN, ""]);
+    check_good(rt, REFUSED, 0, 4, [TEXT_OF_REFUSALS, AT_THE_START]);
+    check_good(rt, "", 0, 0, ["", AT_THE_START]);
+}
+
 #[test]
 fn good_scripts(rt: HostRuntime) {
-    check_good(&rt, A_TURN, 1, 16, [TEXT_OF_THE_TURN, ""]);
-    check_good(&rt, REFUSED, 0, 4, [TEXT_OF_REFUSALS, AT_THE_START]);
-    check_good(&rt, "", 0, 0, ["", AT_THE_START]);
+    check_good_scripts(&rt);
 }
 
 /// A script is refused at a line.
@@ -147,30 +151,38 @@ fn check_refused(rt: &(impl AllocGlobal + Abort), input: &[u8], line: u32, text:
     check_script(rt, input, 0, Verdict::Refused(line), [text, ""]);
 }
 
-#[test]
-fn refused_scripts(rt: HostRuntime) {
+fn check_refused_scripts(rt: &(impl AllocGlobal + Abort)) {
     let at_1 = "refused at line 1: not an event\n";
     let at_2 = "refused at line 2: not an event\n";
-    check_refused(&rt, b"due 12\ndue x\nsave 0", 2, at_2);
-    check_refused(&rt, b"\ndue 12", 1, at_1);
-    check_refused(&rt, b"due 12\n\n", 2, at_2);
-    check_refused(&rt, b"due 12\r\n", 1, at_1);
-    check_refused(&rt, b"due 1\0", 1, at_1);
-    check_refused(&rt, b"due 12345678901", 1, at_1);
+    check_refused(rt, b"due 12\ndue x\nsave 0", 2, at_2);
+    check_refused(rt, b"\ndue 12", 1, at_1);
+    check_refused(rt, b"due 12\n\n", 2, at_2);
+    check_refused(rt, b"due 12\r\n", 1, at_1);
+    check_refused(rt, b"due 1\0", 1, at_1);
+    check_refused(rt, b"due 12345678901", 1, at_1);
     let text = "refused at line 2: bad number\n";
-    check_refused(&rt, b"due 12\ntick 256\n", 2, text);
+    check_refused(rt, b"due 12\ntick 256\n", 2, text);
     let text = "refused at line 1: too many steps\n";
-    check_refused(&rt, b"choose X move 8-7 6-5 4-3 3-2 2-1", 1, text);
+    check_refused(rt, b"choose X move 8-7 6-5 4-3 3-2 2-1", 1, text);
+}
+
+#[test]
+fn refused_scripts(rt: HostRuntime) {
+    check_refused_scripts(&rt);
+}
+
+fn check_longest_scripts(rt: &(impl AllocGlobal + Abort)) {
+    let mut longer = Vec::new(rt.alloc());
+    assert!(rt; longer.resize(MAX_INPUT + 1, b'\n').is_ok());
+    let text = ["refused: input too long\n", ""];
+    check_script(rt, &longer, 0, Verdict::TooLong, text);
+    let text = "refused at line 1: not an event\n";
+    check_refused(rt, &longer[1..], 1, text);
 }
 
 #[test]
 fn longest_scripts(rt: HostRuntime) {
-    let mut longer = Vec::new(rt.alloc());
-    assert!(rt; longer.resize(MAX_INPUT + 1, b'\n').is_ok());
-    let text = ["refused: input too long\n", ""];
-    check_script(&rt, &longer, 0, Verdict::TooLong, text);
-    let text = "refused at line 1: not an event\n";
-    check_refused(&rt, &longer[1..], 1, text);
+    check_longest_scripts(&rt);
 }
 
 /// A script of such a world is refused, and nothing is written.
@@ -220,23 +232,27 @@ fn check_lacking(rt: &impl Abort, answer: Result<Verdict, ScriptFault>, written:
     }
 }
 
-/// A script without a final line end. Where memory is refused the same script then comes to its
-/// text. No run of the tests refuses any, but `tools/checks/refuse_growths` refuses each growth in
-/// turn.
-#[test]
-fn refused_growths_of_scripts(rt: HostRuntime) -> Result<(), Fail> {
+fn check_refused_growths_of_scripts(rt: &(impl AllocGlobal + Abort)) -> Result<(), Fail> {
     let input = A_TURN.as_bytes();
     let mut written = match Vec::with_capacity(rt.alloc(), 1000) {
         Ok(written) => written,
-        Err(_) => Vec::with_capacity(rt.alloc(), 1000).expect(&rt, "memory"),
+        Err(_) => Vec::with_capacity(rt.alloc(), 1000).expect(rt, "memory"),
     };
     let answer = play(rt.alloc(), input, 1, 1, &mut written);
     if written.as_slice() != TEXT_OF_THE_TURN.as_bytes() {
-        check_lacking(&rt, answer, &written);
+        check_lacking(rt, answer, &written);
         written.clear();
         let again = play(rt.alloc(), input, 1, 1, &mut written);
         assert!(rt; again == Ok(Verdict::Fine(16)));
         assert!(rt; written.as_slice() == TEXT_OF_THE_TURN.as_bytes());
     }
     check_no_growth_is_left(rt.alloc())
+}
+
+/// A script without a final line end. Where memory is refused the same script then comes to its
+/// text. No run of the tests refuses any, but `tools/checks/refuse_growths` refuses each growth in
+/// turn.
+#[test]
+fn refused_growths_of_scripts(rt: HostRuntime) -> Result<(), Fail> {
+    check_refused_growths_of_scripts(&rt)
 }

@@ -1,4 +1,5 @@
 //! Whole runs from the start, whose saves are torn at each byte.
+use crate::checks::check;
 use crate::worlds::lines::lines_of;
 use crate::worlds::memory_worlds::{MemoryWorld, check_lines, events_of, simulated};
 use bg_world::RunReport;
@@ -61,7 +62,7 @@ fn run_of(
         memory: 0,
         faults,
     };
-    assert!(rt; report == expected, "{name}");
+    check(rt, name, report == expected);
     world
 }
 

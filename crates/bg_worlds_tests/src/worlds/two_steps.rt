@@ -1,4 +1,5 @@
 //! Saves in two steps: a host is told what to write, writes it, and says what became of the write.
+use crate::checks::check;
 use crate::worlds::faults::PLAYS as FAULTS;
 use crate::worlds::lines::{check_outcome, lines_of};
 use crate::worlds::memory_worlds::{MemoryWorld, check_line, happen, held, played, world_of};
@@ -65,15 +66,14 @@ fn check_save(rt: &impl Abort, world: &mut MemoryWorld, line: &str, row: &str) {
     check_outcome(rt, line, &outcome, expected);
 }
 
-#[test]
-fn plays_in_two_steps(rt: HostRuntime) {
+fn check_plays_in_two_steps(rt: &(impl AllocGlobal + Abort)) {
     for name in [
         "the_drawn_run",
         "failed_reads",
         "failed_writes",
         "parties_that_are_not_there",
     ] {
-        check_play(&rt, FAULTS, name);
+        check_play(rt, FAULTS, name);
     }
     for name in [
         "a_turn_with_a_watcher",
@@ -81,8 +81,13 @@ fn plays_in_two_steps(rt: HostRuntime) {
         "a_roll_is_lost",
         "a_claim_is_kept",
     ] {
-        check_play(&rt, WORKED, name);
+        check_play(rt, WORKED, name);
     }
+}
+
+#[test]
+fn plays_in_two_steps(rt: HostRuntime) {
+    check_plays_in_two_steps(&rt);
 }
 
 /// What has happened before a save is begun.
@@ -134,7 +139,7 @@ fn is_under_way_after(
     match end(world, party, save, Ok(())) {
         None => false,
         Some(outcome) => {
-            assert!(rt; outcome == Outcome::Saved(save), "{line}");
+            check(rt, line, outcome == Outcome::Saved(save));
             true
         }
     }
@@ -183,16 +188,20 @@ fn what_a_save_outlives(rt: HostRuntime) {
     }
 }
 
+fn check_saves_of_another_number(rt: &(impl AllocGlobal + Abort)) {
+    let world = world_after(rt, "an_opening");
+    check_no_end(rt, world, 0, 1, "none was begun");
+    assert!(rt; begins(world, 0, 1, 27));
+    check_no_end(rt, world, 0, 2, "another number");
+    check_no_end(rt, world, 1, 1, "another party");
+    check_no_end(rt, world, 3, 1, "no party");
+    assert!(rt; end(world, 0, 1, Ok(())) == Some(Outcome::Saved(1)));
+    check_no_end(rt, world, 0, 1, "it was ended");
+}
+
 #[test]
 fn saves_of_another_number(rt: HostRuntime) {
-    let world = world_after(&rt, "an_opening");
-    check_no_end(&rt, world, 0, 1, "none was begun");
-    assert!(rt; begins(world, 0, 1, 27));
-    check_no_end(&rt, world, 0, 2, "another number");
-    check_no_end(&rt, world, 1, 1, "another party");
-    check_no_end(&rt, world, 3, 1, "no party");
-    assert!(rt; end(world, 0, 1, Ok(())) == Some(Outcome::Saved(1)));
-    check_no_end(&rt, world, 0, 1, "it was ended");
+    check_saves_of_another_number(&rt);
 }
 
 /// Whether the save that begins now has this number and so many bytes.
@@ -205,7 +214,7 @@ fn begins(world: &mut MemoryWorld, party: u8, number: u32, count: usize) -> bool
 
 /// No save of this number is under way at the party.
 fn check_no_end(rt: &impl Abort, world: &mut MemoryWorld, party: u8, number: u32, why: &str) {
-    assert!(rt; end(world, party, number, Ok(())).is_none(), "{why}");
+    check(rt, why, end(world, party, number, Ok(())).is_none());
 }
 
 #[test]

@@ -1,4 +1,5 @@
 //! Matches of length 1, event by event: what each comes to.
+use crate::checks::check_party;
 use crate::worlds::lines::check_outcome;
 use crate::worlds::memory_worlds::{MemoryWorld, check_line, check_plays, played, sent_to, step};
 use bg_world::Event;
@@ -112,19 +113,23 @@ fn check_gaps(rt: &impl Abort, world: &mut MemoryWorld, party: u8) {
     }
 }
 
+fn check_ticks_of_parties_that_are_alone(rt: &(impl AllocGlobal + Abort)) {
+    let world = played(rt, ALONE, "parties_that_are_alone", None);
+    for (party, sent) in [(1, 9), (2, 18), (3, 27), (4, 36)] {
+        check_gaps(rt, world, party);
+        check_party(rt, party, sent_to(world, 0) == sent);
+    }
+    for _ in 0..128 {
+        check_line(rt, world, "tick 0 -> sent 0");
+    }
+    // A restart begins anew.
+    check_line(rt, world, "restart 3 -> restarted");
+    check_gaps(rt, world, 3);
+}
+
 /// What the seats and the watchers send goes to the referee, who takes none of it and sends
 /// nothing.
 #[test]
 fn ticks_of_parties_that_are_alone(rt: HostRuntime) {
-    let world = played(&rt, ALONE, "parties_that_are_alone", None);
-    for (party, sent) in [(1, 9), (2, 18), (3, 27), (4, 36)] {
-        check_gaps(&rt, world, party);
-        assert!(rt; sent_to(world, 0) == sent, "party {party}");
-    }
-    for _ in 0..128 {
-        check_line(&rt, world, "tick 0 -> sent 0");
-    }
-    // A restart begins anew.
-    check_line(&rt, world, "restart 3 -> restarted");
-    check_gaps(&rt, world, 3);
+    check_ticks_of_parties_that_are_alone(&rt);
 }

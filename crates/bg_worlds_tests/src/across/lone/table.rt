@@ -1,6 +1,7 @@
 //! A match between parties that run each in a process of its own: processes end at random, and
 //! begin again.
 use crate::across::hosts::Host;
+use crate::checks::check_party;
 use crate::fronts::is_front;
 use bg_auto::auto_action;
 use bg_board::Player;
@@ -224,7 +225,7 @@ impl<'a, R: Host> Table<'a, R> {
         };
         assert!(rt; whole.len() >= before);
         for party in SEAT_OF_X..=FIRST_WATCHER {
-            assert!(rt; self.holds_front(party, whole), "party {party}");
+            check_party(rt, party, self.holds_front(party, whole));
         }
         whole.len()
     }
@@ -263,9 +264,10 @@ impl<'a, R: Host> Table<'a, R> {
         check_good(rt, whole);
         for party in SEAT_OF_X..=FIRST_WATCHER {
             let record = self.held(party).expect(rt, "the party runs");
-            assert!(rt;
+            check_party(
+                rt,
+                party,
                 record.len() == whole.len() && is_front(record, whole),
-                "party {party}"
             );
         }
         assert!(rt; self.begun > 3, "{} processes", self.begun);
