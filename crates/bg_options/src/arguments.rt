@@ -1,7 +1,7 @@
 //! The arguments of commands as data, and the command line built from them.
 
-use clap::{Arg, ArgAction, Command, Error, value_parser};
-use std::alloc::Global;
+use clap::{Arg, ArgAction, Command, value_parser};
+use std::alloc::{AllocError, Global};
 
 /// The kind of an argument, and its value.
 #[derive(Clone, Copy)]
@@ -60,7 +60,7 @@ fn text_option<'a>(alloc: Global, name: &'a str, value_name: &'a str) -> Arg<'a>
 
 impl Argument {
     /// Returns the argument as the parser of the command line takes it, without its help.
-    fn unsaid<'a>(self, alloc: Global) -> Arg<'a> {
+    fn unsaid<'a>(&self, alloc: Global) -> Arg<'a> {
         match self.kind {
             Kind::Flag => Arg::new(alloc, self.name)
                 .long(self.name)
@@ -83,15 +83,15 @@ impl Argument {
     }
 
     /// Returns the argument as the parser of the command line takes it.
-    fn described<'a>(self, alloc: Global) -> Result<Arg<'a>, Error> {
+    fn described<'a>(&self, alloc: Global) -> Result<Arg<'a>, AllocError> {
         let argument = self.unsaid(alloc).help(self.about);
-        Ok(match self.need {
-            Need::Required => argument.required(true),
-            Need::Optional => argument,
-            Need::Usually(text) => argument.default_value(text),
-            Need::Unless(other) => argument.required_unless_present(other)?,
-            Need::With(other) => argument.requires_arg(other)?,
-        })
+        match self.need {
+            Need::Required => Ok(argument.required(true)),
+            Need::Optional => Ok(argument),
+            Need::Usually(text) => Ok(argument.default_value(text)),
+            Need::Unless(other) => argument.required_unless_present(other),
+            Need::With(other) => argument.requires_arg(other),
+        }
     }
 }
 
@@ -100,36 +100,33 @@ pub(crate) struct Description {
     pub(crate) name: &'static str,
     /// The line on the command in the list of all.
     pub(crate) about: &'static str,
-    pub(crate) long_about: &'static str,
     /// The end of its help, if there is one.
     pub(crate) after_help: Option<&'static str>,
     pub(crate) arguments: &'static [Argument],
 }
 
 impl Description {
-    /// Returns the command as the parser of the command line takes it.
-    pub(crate) fn command<'a>(&self, alloc: Global) -> Result<Command<'a>, Error> {
-        let mut command = self.without_arguments(alloc);
+    /// Returns the command as the parser of the command line takes it, with this help.
+    pub(crate) fn command<'a>(
+        &self,
+        alloc: Global,
+        help: &'static str,
+    ) -> Result<Command<'a>, AllocError> {
+        let mut arguments = Vec::new(alloc);
         for argument in self.arguments {
-            command = with(command, argument.described(alloc)?)?;
+            arguments.push(argument.described(alloc)?)?;
         }
-        Ok(command)
+        self.without_arguments(alloc, help).args(arguments)
     }
 
     /// Returns the command with its help, and no arguments yet.
-    fn without_arguments<'a>(&self, alloc: Global) -> Command<'a> {
+    fn without_arguments<'a>(&self, alloc: Global, help: &'static str) -> Command<'a> {
         let command = Command::new(alloc, self.name)
             .about(self.about)
-            .long_about(self.long_about);
+            .long_about(help);
         match self.after_help {
             Some(text) => command.after_help(text),
             None => command,
         }
     }
-}
-
-/// Returns the command with one more argument. The promises of the library's calls grow with each
-/// call in one function, and so does the time of the check.
-fn with<'a>(command: Command<'a>, argument: Arg<'a>) -> Result<Command<'a>, Error> {
-    Ok(command.arg(argument)?)
 }

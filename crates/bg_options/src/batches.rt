@@ -1,7 +1,6 @@
 //! The options of commands that convert many files into a folder.
 
 use crate::arguments::{Argument, Kind, Need};
-use crate::headers::WITH_HEADERS;
 use clap::ArgMatches;
 
 /// The files that are converted, and the folder that they are written into.
@@ -19,10 +18,10 @@ impl<'m, 'a> BatchOptions<'m, 'a> {
     /// Returns the batch that the options ask for, if they name a folder.
     pub(crate) fn read(options: &'m ArgMatches<'a>) -> Option<BatchOptions<'m, 'a>> {
         Some(BatchOptions {
-            folder: options.get_str(OUT.name)?,
-            files: options.get_strs(FILES.name).unwrap_or_default(),
-            has_headers: options.get_flag(WITH_HEADERS.name),
-            is_forced: options.get_flag(FORCE.name),
+            folder: options.get_str("out")?,
+            files: options.get_strs("FILE").unwrap_or_default(),
+            has_headers: options.get_flag("with-headers"),
+            is_forced: options.get_flag("force"),
         })
     }
 }

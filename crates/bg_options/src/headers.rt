@@ -19,9 +19,9 @@ impl<'a> HeaderOptions<'a> {
         HeaderOptions {
             x: options.get_str(x),
             o: options.get_str(o),
-            date: options.get_str(DATE.name),
-            event: options.get_str(EVENT.name),
-            place: options.get_str(PLACE.name),
+            date: options.get_str("date"),
+            event: options.get_str("event"),
+            place: options.get_str("place"),
         }
     }
 

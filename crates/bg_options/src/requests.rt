@@ -1,11 +1,10 @@
 //! The request that arguments make.
 
-use crate::batches::{FILES, OUT};
 use crate::commands::act::ActOptions;
 use crate::commands::board::BoardOptions;
 use crate::commands::check::CheckOptions;
 use crate::commands::export::ExportOptions;
-use crate::commands::import::{HEADERS, ImportOptions};
+use crate::commands::import::ImportOptions;
 use crate::commands::list::ListOptions;
 use crate::commands::manage::ManageOptions;
 use crate::commands::new_match::NewOptions;
@@ -20,7 +19,11 @@ use crate::commands::serve::ServeOptions;
 use crate::commands::show::ShowOptions;
 use crate::commands::sim::SimOptions;
 use crate::commands::watch::WatchOptions;
-use crate::shared::{MISPLACED_FILE, check_names};
+use crate::commands::{
+    act, board, check, export, import, list, manage, new_match, page, picture, play, play_loop,
+    recover, referee, script, serve, show, sim, watch,
+};
+use crate::shared::check_names;
 use crate::tasks::Task;
 use bg_system::NameFault;
 use clap::ArgMatches;
@@ -76,8 +79,10 @@ impl Display for RequestFault {
     fn fmt<W: Write>(&self, f: &mut Formatter<W>) -> fmt::Result {
         match self {
             RequestFault::MisplacedFile(command) => {
-                let why = "this command reads the standard input: bg_relay";
-                write!(f, "{why} {command} < FILE")
+                write!(
+                    f,
+                    "this command reads the standard input: bg_relay {command} < FILE"
+                )
             }
             RequestFault::NoFiles => f.write_str(
                 "--out needs the files to convert: --out DIR FILE..",
@@ -100,26 +105,36 @@ impl<'m, 'a> Request<'m, 'a> {
     /// player's name, or another text above a match, is not valid. `Missing` where there is no
     /// command, or it lacks an option.
     pub fn read(matches: &'m ArgMatches<'a>) -> Result<Request<'m, 'a>, RequestFault> {
-        let (name, options) = matches.subcommand().ok_or(RequestFault::Missing)?;
-        let task = Task::named(name).ok_or(RequestFault::Missing)?;
-        match task.reading() {
-            Some(_) if options.contains_id(OUT.name) => check_batch(options)?,
-            Some(command) if options.contains_id(MISPLACED_FILE.name) => {
-                return Err(RequestFault::MisplacedFile(command));
-            }
-            _ => {}
-        }
-        check_names(options, task.names())?;
+        let Some((name, options)) = matches.subcommand() else {
+            return Err(RequestFault::Missing);
+        };
+        let Some(task) = Task::named(name) else {
+            return Err(RequestFault::Missing);
+        };
+        check_options(task, options)?;
         of_task(task, options).ok_or(RequestFault::Missing)
     }
 }
 
+/// Refuses a file that is named to a command that reads the standard input, options for files and a
+/// folder that don't fit, and texts that are not valid names.
+fn check_options(task: Task, options: &ArgMatches<'_>) -> Result<(), RequestFault> {
+    if let Some(command) = task.reading() {
+        if options.contains_id("out") {
+            check_batch(options)?;
+        } else if options.contains_id("FILE") {
+            return Err(RequestFault::MisplacedFile(command));
+        }
+    }
+    check_names(options, task.names())
+}
+
 /// Refuses a folder for files where none is named, and headers of many files.
 fn check_batch(options: &ArgMatches<'_>) -> Result<(), RequestFault> {
-    if !options.contains_id(FILES.name) {
+    if !options.contains_id("FILE") {
         return Err(RequestFault::NoFiles);
     }
-    if options.contains_id(HEADERS.name) {
+    if options.contains_id("headers") {
         return Err(RequestFault::HeadersOfMany);
     }
     Ok(())
@@ -127,34 +142,36 @@ fn check_batch(options: &ArgMatches<'_>) -> Result<(), RequestFault> {
 
 /// Returns the request for a task with these options.
 fn of_task<'m, 'a>(task: Task, options: &'m ArgMatches<'a>) -> Option<Request<'m, 'a>> {
-    Some(match task {
-        Task::Judge => Request::Judge,
-        Task::Check => Request::Check(CheckOptions::read(options)),
-        Task::Import => Request::Import(ImportOptions::read(options)?),
-        Task::Export => Request::Export(ExportOptions::read(options)),
-        Task::Show => Request::Show(ShowOptions::read(options)),
-        Task::List => Request::List(ListOptions::read(options)),
-        Task::Board => Request::Board(BoardOptions::read(options)?),
-        Task::Page => Request::Page(PageOptions::read(options)),
-        Task::Picture => Request::Picture(PictureOptions::read(options)),
-        Task::Id => Request::Id,
-        Task::Dice => Request::Dice {
-            secret: options.get_str("secret")?,
-        },
-        Task::Script => Request::Script(ScriptOptions::read(options)?),
-        Task::Sim => Request::Sim(SimOptions::read(options)?),
-        Task::Loop => Request::Loop(LoopOptions::read(options)?),
-        Task::New => Request::New(NewOptions::read(options)?),
-        Task::Keys => Request::Keys {
-            folder: options.get_str("dir")?,
-        },
-        Task::Recover => Request::Recover(RecoverOptions::read(options)?),
-        Task::Referee => Request::Referee(RefereeOptions::read(options)?),
-        Task::Play => Request::Play(PlayOptions::read(options)?),
-        Task::Act => Request::Act(ActOptions::read(options)?),
-        Task::Auto => Request::Auto(SeatOptions::read(options)?),
-        Task::Watch => Request::Watch(WatchOptions::read(options)?),
-        Task::Serve => Request::Serve(ServeOptions::read(options)?),
-        Task::Manage => Request::Manage(ManageOptions::read(options)?),
-    })
+    match task {
+        Task::Judge => Some(Request::Judge),
+        Task::Check => Some(check::request(options)),
+        Task::Import => import::request(options),
+        Task::Export => Some(export::request(options)),
+        Task::Show => Some(show::request(options)),
+        Task::List => Some(list::request(options)),
+        Task::Board => board::request(options),
+        Task::Page => Some(page::request(options)),
+        Task::Picture => Some(picture::request(options)),
+        Task::Id => Some(Request::Id),
+        Task::Dice => {
+            let secret = options.get_str("secret")?;
+            Some(Request::Dice { secret })
+        }
+        Task::Script => script::request(options),
+        Task::Sim => sim::request(options),
+        Task::Loop => play_loop::request(options),
+        Task::New => new_match::request(options),
+        Task::Keys => {
+            let folder = options.get_str("dir")?;
+            Some(Request::Keys { folder })
+        }
+        Task::Recover => recover::request(options),
+        Task::Referee => referee::request(options),
+        Task::Play => play::request(options),
+        Task::Act => act::request(options),
+        Task::Auto => Some(Request::Auto(SeatOptions::read(options)?)),
+        Task::Watch => watch::request(options),
+        Task::Serve => serve::request(options),
+        Task::Manage => manage::request(options),
+    }
 }

@@ -43,6 +43,11 @@ pub(crate) fn byte_in(options: &ArgMatches<'_>, name: &str) -> Option<u8> {
     u8::try_from(number_in(options, name)?).ok()
 }
 
+/// Returns the port that an option gives, if it is there.
+pub(crate) fn port_in(options: &ArgMatches<'_>, name: &str) -> Option<u16> {
+    u16::try_from(number_in(options, name)?).ok()
+}
+
 pub(crate) const SEED: Argument = Argument {
     name: "seed",
     kind: Kind::LongNumber("N"),
@@ -72,7 +77,7 @@ pub(crate) const RULES: Argument = Argument {
 /// Returns the length and the rules of the match that the options name.
 pub(crate) fn terms_in(options: &ArgMatches<'_>) -> Option<Terms> {
     Some(Terms {
-        length: byte_in(options, LENGTH.name)?,
+        length: byte_in(options, "length")?,
         rules: rules_in(options)?,
     })
 }
@@ -117,10 +122,10 @@ pub(crate) fn check_names(
     options: &ArgMatches<'_>,
     names: &[&'static str],
 ) -> Result<(), RequestFault> {
-    for option in names.iter().copied() {
+    for option in names {
         if let Some(text) = options.get_str(option) {
             if let Err(why) = Name::new(text) {
-                return Err(RequestFault::Name(option, why));
+                return Err(RequestFault::Name(*option, why));
             }
         }
     }

@@ -6,7 +6,7 @@ use crate::commands::{
     picture, play, play_loop, recover, referee, script, serve, show, sim, watch,
 };
 use clap::{Command, Error};
-use std::alloc::Global;
+use std::alloc::{AllocError, Global};
 
 /// The version that `--version` prints.
 const VERSION: &str = "0.1.0";
@@ -105,33 +105,33 @@ impl Task {
         }
     }
 
-    /// Returns the command with its options and help.
-    fn description(self) -> &'static Description {
+    /// Returns the command with its options, and the help on it.
+    fn description(self) -> (&'static Description, &'static str) {
         match self {
-            Task::Judge => &judge::COMMAND,
-            Task::Check => &check::COMMAND,
-            Task::Import => &import::COMMAND,
-            Task::Export => &export::COMMAND,
-            Task::Show => &show::COMMAND,
-            Task::List => &list::COMMAND,
-            Task::Board => &board::COMMAND,
-            Task::Page => &page::COMMAND,
-            Task::Picture => &picture::COMMAND,
-            Task::Id => &id::COMMAND,
-            Task::Dice => &dice::COMMAND,
-            Task::Script => &script::COMMAND,
-            Task::Sim => &sim::COMMAND,
-            Task::Loop => &play_loop::COMMAND,
-            Task::New => &new_match::COMMAND,
-            Task::Keys => &keys::COMMAND,
-            Task::Recover => &recover::COMMAND,
-            Task::Referee => &referee::COMMAND,
-            Task::Play => &play::COMMAND,
-            Task::Act => &act::COMMAND,
-            Task::Auto => &auto::COMMAND,
-            Task::Watch => &watch::COMMAND,
-            Task::Serve => &serve::COMMAND,
-            Task::Manage => &manage::COMMAND,
+            Task::Judge => (&judge::COMMAND, judge::ABOUT_JUDGE),
+            Task::Check => (&check::COMMAND, check::ABOUT_CHECK),
+            Task::Import => (&import::COMMAND, import::ABOUT_IMPORT),
+            Task::Export => (&export::COMMAND, export::ABOUT_EXPORT),
+            Task::Show => (&show::COMMAND, show::ABOUT_SHOW),
+            Task::List => (&list::COMMAND, list::ABOUT_LIST),
+            Task::Board => (&board::COMMAND, board::ABOUT_BOARD),
+            Task::Page => (&page::COMMAND, page::ABOUT_PAGE),
+            Task::Picture => (&picture::COMMAND, picture::ABOUT_PICTURE),
+            Task::Id => (&id::COMMAND, id::ABOUT_ID),
+            Task::Dice => (&dice::COMMAND, dice::ABOUT_DICE),
+            Task::Script => (&script::COMMAND, script::ABOUT_SCRIPT),
+            Task::Sim => (&sim::COMMAND, sim::ABOUT_SIM),
+            Task::Loop => (&play_loop::COMMAND, play_loop::ABOUT_LOOP),
+            Task::New => (&new_match::COMMAND, new_match::ABOUT_NEW),
+            Task::Keys => (&keys::COMMAND, keys::ABOUT_KEYS),
+            Task::Recover => (&recover::COMMAND, recover::ABOUT_RECOVER),
+            Task::Referee => (&referee::COMMAND, referee::ABOUT_REFEREE),
+            Task::Play => (&play::COMMAND, play::ABOUT_PLAY),
+            Task::Act => (&act::COMMAND, act::ABOUT_ACT),
+            Task::Auto => (&auto::COMMAND, auto::ABOUT_AUTO),
+            Task::Watch => (&watch::COMMAND, watch::ABOUT_WATCH),
+            Task::Serve => (&serve::COMMAND, serve::ABOUT_SERVE),
+            Task::Manage => (&manage::COMMAND, manage::ABOUT_MANAGE),
         }
     }
 }
@@ -145,7 +145,7 @@ impl Task {
 pub fn command_line<'a>(alloc: Global, first: Option<&str>) -> Result<Command<'a>, Error> {
     let mut program = without_commands(alloc);
     if let Some(task) = first.and_then(Task::named) {
-        return with_task(alloc, program, task);
+        return Ok(with_task(alloc, program, task)?);
     }
     for (_, task) in &TASKS {
         program = with_task(alloc, program, *task)?;
@@ -163,7 +163,11 @@ fn without_commands<'a>(alloc: Global) -> Command<'a> {
 }
 
 /// Returns the command line with one more command.
-fn with_task<'a>(alloc: Global, program: Command<'a>, task: Task) -> Result<Command<'a>, Error> {
-    let command = task.description().command(alloc)?;
-    Ok(program.subcommand(command)?)
+fn with_task<'a>(
+    alloc: Global,
+    program: Command<'a>,
+    task: Task,
+) -> Result<Command<'a>, AllocError> {
+    let (description, help) = task.description();
+    program.subcommand(description.command(alloc, help)?)
 }

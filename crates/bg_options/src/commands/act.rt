@@ -2,12 +2,13 @@
 
 use crate::arguments::{Argument, Description, Kind, Need};
 use crate::commands::play::SeatOptions;
+use crate::requests::Request;
 use crate::shared::{FOLDER, PLAYER, SEAT_KEY, THREE_TERMINALS, number_in};
 use bg_match::{MOST_ENTRIES, Number};
 use clap::ArgMatches;
 
 /// The help on `act`.
-const ABOUT_ACT: &str =
+pub(crate) const ABOUT_ACT: &str =
     "Make one action on the player's turn, and wait for its entry. Without ACTION, wait for the turn.
 Prints the entries since the last call, and the board.
 
@@ -31,15 +32,14 @@ pub struct ActOptions<'m, 'a> {
     pub seconds: u32,
 }
 
-impl<'m, 'a> ActOptions<'m, 'a> {
-    pub(crate) fn read(options: &'m ArgMatches<'a>) -> Option<ActOptions<'m, 'a>> {
-        Some(ActOptions {
-            seat: SeatOptions::read(options)?,
-            words: options.get_strs("ACTION").unwrap_or_default(),
-            entry: number_in(options, "entry"),
-            seconds: number_in(options, "seconds")?,
-        })
-    }
+/// Returns the request that these options make, if none that it needs is missing.
+pub(crate) fn request<'m, 'a>(options: &'m ArgMatches<'a>) -> Option<Request<'m, 'a>> {
+    Some(Request::Act(ActOptions {
+        seat: SeatOptions::read(options)?,
+        words: options.get_strs("ACTION").unwrap_or_default(),
+        entry: number_in(options, "entry"),
+        seconds: number_in(options, "seconds")?,
+    }))
 }
 
 const SECONDS: Argument = Argument {
@@ -67,7 +67,6 @@ const ACTION: Argument = Argument {
 pub(crate) static COMMAND: Description = Description {
     name: "act",
     about: "Make one action, for scripts",
-    long_about: ABOUT_ACT,
     after_help: Some(THREE_TERMINALS),
     arguments: &[PLAYER, SEAT_KEY, FOLDER, SECONDS, ENTRY, ACTION],
 };

@@ -4,7 +4,7 @@ use crate::arguments::Description;
 use crate::shared::{FOLDER, PLAYER, SEAT_KEY, THREE_TERMINALS};
 
 /// The help on `auto`.
-const ABOUT_AUTO: &str =
+pub(crate) const ABOUT_AUTO: &str =
     "Let an automatic player play a match until it is over, and print its transcript.
 
 Saves its actions in DIR, a folder for this player alone, which is made if it is missing.
@@ -15,7 +15,6 @@ Exit status: as for `play`.";
 pub(crate) static COMMAND: Description = Description {
     name: "auto",
     about: "Let an automatic player play a match",
-    long_about: ABOUT_AUTO,
     after_help: Some(THREE_TERMINALS),
     arguments: &[PLAYER, SEAT_KEY, FOLDER],
 };

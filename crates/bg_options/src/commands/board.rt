@@ -1,12 +1,13 @@
 //! The options and help of the command that keeps pages of many matches.
 
 use crate::arguments::{Argument, Description, Kind, Need};
+use crate::requests::Request;
 use crate::shared::{NUMBERING, numbering_in};
 use bg_picture::Numbering;
 use clap::ArgMatches;
 
 /// The help on `board`, with an example.
-const ABOUT_BOARD: &str =
+pub(crate) const ABOUT_BOARD: &str =
     "Keep web pages of many matches: of each referee's folder among those named, and of those up to
 three folders below them. A folder with a key file `match-watch` and no match file stands for its
 match too, and so does a key file that is named: such a match is watched.
@@ -48,16 +49,15 @@ pub struct BoardOptions<'m, 'a> {
     pub is_once: bool,
 }
 
-impl<'m, 'a> BoardOptions<'m, 'a> {
-    pub(crate) fn read(options: &'m ArgMatches<'a>) -> Option<BoardOptions<'m, 'a>> {
-        Some(BoardOptions {
-            places: options.get_strs("DIR").unwrap_or_default(),
-            out: options.get_str(OUT.name)?,
-            title: options.get_str(TITLE.name)?,
-            numbering: numbering_in(options),
-            is_once: options.get_flag(ONCE.name),
-        })
-    }
+/// Returns the request that these options make, if none that it needs is missing.
+pub(crate) fn request<'m, 'a>(options: &'m ArgMatches<'a>) -> Option<Request<'m, 'a>> {
+    Some(Request::Board(BoardOptions {
+        places: options.get_strs("DIR").unwrap_or_default(),
+        out: options.get_str("out")?,
+        title: options.get_str("title")?,
+        numbering: numbering_in(options),
+        is_once: options.get_flag("once"),
+    }))
 }
 
 const OUT: Argument = Argument {
@@ -93,7 +93,6 @@ const PLACES: Argument = Argument {
 pub(crate) static COMMAND: Description = Description {
     name: "board",
     about: "Keep web pages of many matches",
-    long_about: ABOUT_BOARD,
     after_help: None,
     arguments: &[OUT, TITLE, NUMBERING, ONCE, PLACES],
 };

@@ -1,10 +1,12 @@
 //! The options and help of the command that judges many files.
 
 use crate::arguments::{Argument, Description, Kind, Need};
+use crate::requests::Request;
 use clap::ArgMatches;
 
 /// The help on `check`, with an example.
-const ABOUT_CHECK: &str = "Judge many files, and print a line for each, in the order given.
+pub(crate) const ABOUT_CHECK: &str =
+    "Judge many files, and print a line for each, in the order given.
 
     $ bg_relay check good.txt bad.txt other.mat
     good.txt: ok 2, not over
@@ -61,20 +63,19 @@ pub struct CheckOptions<'m, 'a> {
     pub format: CheckFormat,
 }
 
-impl<'m, 'a> CheckOptions<'m, 'a> {
-    pub(crate) fn read(options: &'m ArgMatches<'a>) -> CheckOptions<'m, 'a> {
-        CheckOptions {
-            files: options.get_strs("FILE").unwrap_or_default(),
-            list: options.get_str("files-from"),
-            is_quiet: options.get_flag("quiet"),
-            is_recursive: options.get_flag("recursive"),
-            format: match options.get_str("format") {
-                Some("tsv") => CheckFormat::Tsv,
-                Some("json") => CheckFormat::Json,
-                _ => CheckFormat::Text,
-            },
-        }
-    }
+/// Returns the request that these options make.
+pub(crate) fn request<'m, 'a>(options: &'m ArgMatches<'a>) -> Request<'m, 'a> {
+    Request::Check(CheckOptions {
+        files: options.get_strs("FILE").unwrap_or_default(),
+        list: options.get_str("files-from"),
+        is_quiet: options.get_flag("quiet"),
+        is_recursive: options.get_flag("recursive"),
+        format: match options.get_str("format") {
+            Some("tsv") => CheckFormat::Tsv,
+            Some("json") => CheckFormat::Json,
+            _ => CheckFormat::Text,
+        },
+    })
 }
 
 const QUIET: Argument = Argument {
@@ -116,7 +117,6 @@ const FILES: Argument = Argument {
 pub(crate) static COMMAND: Description = Description {
     name: "check",
     about: "Judge many files",
-    long_about: ABOUT_CHECK,
     after_help: None,
     arguments: &[QUIET, LIST, FORMAT, RECURSIVE, FILES],
 };

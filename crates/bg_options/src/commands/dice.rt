@@ -4,7 +4,7 @@ use crate::arguments::{Argument, Description, Kind, Need};
 use crate::shared::MISPLACED_FILE;
 
 /// The help on `dice`, with an example.
-const ABOUT_DICE: &str =
+pub(crate) const ABOUT_DICE: &str =
     "Check the dice of a match against their secret. The transcript comes from standard input.
 
     $ printf 'secret %064d\\n' 0 > dice.txt
@@ -40,7 +40,6 @@ const SECRET: Argument = Argument {
 pub(crate) static COMMAND: Description = Description {
     name: "dice",
     about: "Check the dice of a match by their secret",
-    long_about: ABOUT_DICE,
     after_help: None,
     arguments: &[SECRET, MISPLACED_FILE],
 };

@@ -3,10 +3,11 @@
 use crate::arguments::{Argument, Description, Kind, Need};
 use crate::batches::{BatchOptions, FILES, FORCE, OUT};
 use crate::headers::{DATE, EVENT, HeaderOptions, PLACE, WITH_HEADERS};
+use crate::requests::Request;
 use clap::ArgMatches;
 
 /// The help on `export`, with an example.
-const ABOUT_EXPORT: &str =
+pub(crate) const ABOUT_EXPORT: &str =
     "Convert a transcript into a match file for other programs: bg_relay export < TRANSCRIPT
 
 Prints a match file (.mat) as most backgammon programs read it. From
@@ -45,13 +46,12 @@ pub struct ExportOptions<'m, 'a> {
     pub batch: Option<BatchOptions<'m, 'a>>,
 }
 
-impl<'m, 'a> ExportOptions<'m, 'a> {
-    pub(crate) fn read(options: &'m ArgMatches<'a>) -> ExportOptions<'m, 'a> {
-        ExportOptions {
-            headers: HeaderOptions::read(options, X.name, O.name),
-            batch: BatchOptions::read(options),
-        }
-    }
+/// Returns the request that these options make.
+pub(crate) fn request<'m, 'a>(options: &'m ArgMatches<'a>) -> Request<'m, 'a> {
+    Request::Export(ExportOptions {
+        headers: HeaderOptions::read(options, "x", "o"),
+        batch: BatchOptions::read(options),
+    })
 }
 
 const X: Argument = Argument {
@@ -72,7 +72,6 @@ const O: Argument = Argument {
 pub(crate) static COMMAND: Description = Description {
     name: "export",
     about: "Convert a transcript into a match file for other programs",
-    long_about: ABOUT_EXPORT,
     after_help: None,
     arguments: &[X, O, DATE, EVENT, PLACE, OUT, WITH_HEADERS, FORCE, FILES],
 };

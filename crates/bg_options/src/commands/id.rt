@@ -4,7 +4,7 @@ use crate::arguments::Description;
 use crate::shared::MISPLACED_FILE;
 
 /// The help on `id`, with an example.
-const ABOUT_ID: &str =
+pub(crate) const ABOUT_ID: &str =
     "Print the IDs that other programs use for the last position of the transcript on standard input.
 
     $ printf 'length 7\\nopen 3 1\\n' | bg_relay id
@@ -25,7 +25,6 @@ failed.";
 pub(crate) static COMMAND: Description = Description {
     name: "id",
     about: "Print the IDs that other programs use for a position",
-    long_about: ABOUT_ID,
     after_help: None,
     arguments: &[MISPLACED_FILE],
 };

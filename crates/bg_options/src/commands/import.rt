@@ -3,12 +3,13 @@
 use crate::arguments::{Argument, Description, Kind, Need};
 use crate::batches::{BatchOptions, FILES, FORCE, OUT};
 use crate::headers::WITH_HEADERS;
+use crate::requests::Request;
 use crate::shared::{RULES, rules_in};
 use bg_match::Rules;
 use clap::ArgMatches;
 
 /// The help on `import`, with an example.
-const ABOUT_IMPORT: &str =
+pub(crate) const ABOUT_IMPORT: &str =
     "Convert a match file of another program into a transcript: bg_relay import < FILE.mat
 
 Reads a match file (.mat) as most backgammon programs write it, and prints the transcript of its
@@ -51,18 +52,17 @@ pub struct ImportOptions<'m, 'a> {
     pub batch: Option<BatchOptions<'m, 'a>>,
 }
 
-impl<'m, 'a> ImportOptions<'m, 'a> {
-    pub(crate) fn read(options: &'m ArgMatches<'a>) -> Option<ImportOptions<'m, 'a>> {
-        Some(ImportOptions {
-            rules: rules_in(options)?,
-            headers: options.get_str(HEADERS.name),
-            is_forced: options.get_flag(FORCE.name),
-            batch: BatchOptions::read(options),
-        })
-    }
+/// Returns the request that these options make, if none that it needs is missing.
+pub(crate) fn request<'m, 'a>(options: &'m ArgMatches<'a>) -> Option<Request<'m, 'a>> {
+    Some(Request::Import(ImportOptions {
+        rules: rules_in(options)?,
+        headers: options.get_str("headers"),
+        is_forced: options.get_flag("force"),
+        batch: BatchOptions::read(options),
+    }))
 }
 
-pub(crate) const HEADERS: Argument = Argument {
+const HEADERS: Argument = Argument {
     name: "headers",
     kind: Kind::Text("FILE"),
     need: Need::Optional,
@@ -73,7 +73,6 @@ pub(crate) const HEADERS: Argument = Argument {
 pub(crate) static COMMAND: Description = Description {
     name: "import",
     about: "Convert a match file of another program into a transcript",
-    long_about: ABOUT_IMPORT,
     after_help: None,
     arguments: &[RULES, HEADERS, OUT, WITH_HEADERS, FORCE, FILES],
 };

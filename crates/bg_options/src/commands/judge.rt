@@ -4,7 +4,8 @@ use crate::arguments::Description;
 use crate::shared::MISPLACED_FILE;
 
 /// The help on `judge`, with a transcript and what it prints for it.
-const ABOUT_JUDGE: &str = "Judge the transcript of a match on standard input: bg_relay judge < FILE
+pub(crate) const ABOUT_JUDGE: &str =
+    "Judge the transcript of a match on standard input: bg_relay judge < FILE
 
 The first line of a transcript has the length of the match. Each further line is an entry:
 
@@ -34,7 +35,6 @@ failed.";
 pub(crate) static COMMAND: Description = Description {
     name: "judge",
     about: "Judge the transcript of a match on standard input",
-    long_about: ABOUT_JUDGE,
     after_help: None,
     arguments: &[MISPLACED_FILE],
 };

@@ -4,7 +4,7 @@ use crate::arguments::Description;
 use crate::shared::{FOLDER, THREE_TERMINALS};
 
 /// The help on `keys`.
-const ABOUT_KEYS: &str = "Make the key files of a match.
+pub(crate) const ABOUT_KEYS: &str = "Make the key files of a match.
 
 Writes `match-x`, `match-o` and `match-watch` into DIR, the referee's folder, as `new` does. If
 they were lost, it makes the same ones again, since all keys are derived from `key-secret`.
@@ -20,7 +20,6 @@ Exit status: 0 for success; 2 if DIR is not a folder, has no match, or has some 
 pub(crate) static COMMAND: Description = Description {
     name: "keys",
     about: "Make the key files of a match",
-    long_about: ABOUT_KEYS,
     after_help: Some(THREE_TERMINALS),
     arguments: &[FOLDER],
 };

@@ -1,10 +1,11 @@
 //! The options and help of the command that lists matches.
 
 use crate::arguments::{Argument, Description, Kind, Need};
+use crate::requests::Request;
 use clap::ArgMatches;
 
 /// The help on `list`, with an example.
-const ABOUT_LIST: &str =
+pub(crate) const ABOUT_LIST: &str =
     "List matches: a line for each referee's folder among those named, and for those up to three
 folders below them.
 
@@ -40,16 +41,15 @@ pub struct ListOptions<'m, 'a> {
     pub format: ListFormat,
 }
 
-impl<'m, 'a> ListOptions<'m, 'a> {
-    pub(crate) fn read(options: &'m ArgMatches<'a>) -> ListOptions<'m, 'a> {
-        ListOptions {
-            folders: options.get_strs("DIR").unwrap_or_default(),
-            format: match options.get_str("format") {
-                Some("json") => ListFormat::Json,
-                _ => ListFormat::Text,
-            },
-        }
-    }
+/// Returns the request that these options make.
+pub(crate) fn request<'m, 'a>(options: &'m ArgMatches<'a>) -> Request<'m, 'a> {
+    Request::List(ListOptions {
+        folders: options.get_strs("DIR").unwrap_or_default(),
+        format: match options.get_str("format") {
+            Some("json") => ListFormat::Json,
+            _ => ListFormat::Text,
+        },
+    })
 }
 
 const FORMAT: Argument = Argument {
@@ -71,7 +71,6 @@ const FOLDERS: Argument = Argument {
 pub(crate) static COMMAND: Description = Description {
     name: "list",
     about: "List matches and where they stand",
-    long_about: ABOUT_LIST,
     after_help: None,
     arguments: &[FORMAT, FOLDERS],
 };

@@ -1,12 +1,13 @@
 //! The options and help of the command by which an operator changes the matches of a server.
 
 use crate::arguments::{Argument, Description, Kind, Need};
+use crate::requests::Request;
 use crate::shared::player_in;
 use bg_board::Player;
 use clap::ArgMatches;
 
 /// The help on `manage`.
-const ABOUT_MANAGE: &str =
+pub(crate) const ABOUT_MANAGE: &str =
     "Hide, delete, copy or restore the matches of a server, or give a seat a new link.
 
     bg_relay manage --dir tables --match 7f3a90c1d2e4 --hide
@@ -52,23 +53,22 @@ pub struct ManageOptions<'a> {
     pub wanted: Option<Management<'a>>,
 }
 
-impl<'a> ManageOptions<'a> {
-    pub(crate) fn read(options: &ArgMatches<'a>) -> Option<ManageOptions<'a>> {
-        Some(ManageOptions {
-            folder: options.get_str(FOLDER.name)?,
-            name: options.get_str(MATCH.name),
-            wanted: wanted_in(options),
-        })
-    }
+/// Returns the request that these options make, if none that it needs is missing.
+pub(crate) fn request<'m, 'a>(options: &'m ArgMatches<'a>) -> Option<Request<'m, 'a>> {
+    Some(Request::Manage(ManageOptions {
+        folder: options.get_str("dir")?,
+        name: options.get_str("match"),
+        wanted: wanted_in(options),
+    }))
 }
 
 /// Returns the one thing that is wanted.
 fn wanted_in<'a>(options: &ArgMatches<'a>) -> Option<Management<'a>> {
     let found = [
-        flag(options, HIDE.name, Management::Hide),
-        flag(options, SHOW.name, Management::Show),
-        flag(options, DELETE.name, Management::Delete),
-        flag(options, FORGET_NAMES.name, Management::ForgetNames),
+        flag(options, "hide", Management::Hide),
+        flag(options, "show", Management::Show),
+        flag(options, "delete", Management::Delete),
+        flag(options, "forget-names", Management::ForgetNames),
         new_link_in(options),
         backup_in(options),
         restore_in(options),
@@ -91,17 +91,17 @@ fn flag<'a>(options: &ArgMatches<'a>, name: &str, asked: Management<'a>) -> Opti
 
 /// Returns which seat is to have a new link, if one is.
 fn new_link_in<'a>(options: &ArgMatches<'a>) -> Option<Management<'a>> {
-    Some(Management::NewLink(player_in(options, NEW_LINK.name)?))
+    Some(Management::NewLink(player_in(options, "new-link")?))
 }
 
 /// Returns where all matches are to be copied, if they are.
 fn backup_in<'a>(options: &ArgMatches<'a>) -> Option<Management<'a>> {
-    Some(Management::Backup(options.get_str(BACKUP.name)?))
+    Some(Management::Backup(options.get_str("backup")?))
 }
 
 /// Returns from where matches are to be copied back, if they are.
 fn restore_in<'a>(options: &ArgMatches<'a>) -> Option<Management<'a>> {
-    Some(Management::Restore(options.get_str(RESTORE.name)?))
+    Some(Management::Restore(options.get_str("restore")?))
 }
 
 const FOLDER: Argument = Argument {
@@ -171,7 +171,6 @@ const RESTORE: Argument = Argument {
 pub(crate) static COMMAND: Description = Description {
     name: "manage",
     about: "Hide, delete, copy or restore the matches of a server",
-    long_about: ABOUT_MANAGE,
     after_help: None,
     arguments: &[
         FOLDER,

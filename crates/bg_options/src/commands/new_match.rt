@@ -1,15 +1,16 @@
 //! The options and help of the command that makes a match between processes.
 
 use crate::arguments::{Argument, Description, Kind, Need};
+use crate::requests::Request;
 use crate::shared::{
-    FOLDER, LENGTH, NAME_O, NAME_X, RULES, THREE_TERMINALS, names_of, number_in, terms_in,
+    FOLDER, LENGTH, NAME_O, NAME_X, RULES, THREE_TERMINALS, names_of, port_in, terms_in,
 };
 use bg_match::Terms;
 use bg_system::{HIGHEST_PORT, LOWEST_PORT, Names};
 use clap::ArgMatches;
 
 /// The help on `new`.
-const ABOUT_NEW: &str = "Make a match between processes.
+pub(crate) const ABOUT_NEW: &str = "Make a match between processes.
 
 Writes the referee's files into DIR, which is made if it is missing, and prints the line of
 `match`. Hand `match-x` to player X, `match-o` to player O, and `match-watch` to whoever may
@@ -39,20 +40,21 @@ pub struct NewOptions<'a> {
 }
 
 impl<'a> NewOptions<'a> {
-    pub(crate) fn read(options: &ArgMatches<'a>) -> Option<NewOptions<'a>> {
-        Some(NewOptions {
-            terms: terms_in(options)?,
-            port: u16::try_from(number_in(options, "port")?).ok()?,
-            name_x: options.get_str(NAME_X.name),
-            name_o: options.get_str(NAME_O.name),
-            folder: options.get_str("dir")?,
-        })
-    }
-
     /// Returns the names of the players.
     pub fn names(&self) -> Names {
         names_of(self.name_x, self.name_o)
     }
+}
+
+/// Returns the request that these options make, if none that it needs is missing.
+pub(crate) fn request<'m, 'a>(options: &'m ArgMatches<'a>) -> Option<Request<'m, 'a>> {
+    Some(Request::New(NewOptions {
+        terms: terms_in(options)?,
+        port: port_in(options, "port")?,
+        name_x: options.get_str("name-x"),
+        name_o: options.get_str("name-o"),
+        folder: options.get_str("dir")?,
+    }))
 }
 
 const PORT: Argument = Argument {
@@ -66,7 +68,6 @@ const PORT: Argument = Argument {
 pub(crate) static COMMAND: Description = Description {
     name: "new",
     about: "Make a match between processes",
-    long_about: ABOUT_NEW,
     after_help: Some(THREE_TERMINALS),
     arguments: &[LENGTH, RULES, PORT, FOLDER, NAME_X, NAME_O],
 };

@@ -2,13 +2,14 @@
 
 use crate::arguments::{Argument, Description, Kind, Need};
 use crate::headers::{DATE, EVENT, HeaderOptions, PLACE};
+use crate::requests::Request;
 use crate::shared::{MISPLACED_FILE, NAME_O, NAME_X, NUMBERING, TITLE, names_of, numbering_in};
 use bg_picture::Numbering;
 use bg_system::Names;
 use clap::ArgMatches;
 
 /// The help on `page`, with an example.
-const ABOUT_PAGE: &str = "Turn the transcript on standard input into a web page.
+pub(crate) const ABOUT_PAGE: &str = "Turn the transcript on standard input into a web page.
 
     $ bg_relay page --title \"Anna against Otto\" < transcript.txt > match.html
 
@@ -39,19 +40,20 @@ pub struct PageOptions<'a> {
 }
 
 impl<'a> PageOptions<'a> {
-    pub(crate) fn read(options: &ArgMatches<'a>) -> PageOptions<'a> {
-        PageOptions {
-            title: options.get_str(TITLE.name),
-            match_path: options.get_str("match"),
-            headers: HeaderOptions::read(options, NAME_X.name, NAME_O.name),
-            numbering: numbering_in(options),
-        }
-    }
-
     /// Returns the names of the players that the options give.
     pub fn names(&self) -> Names {
         names_of(self.headers.x, self.headers.o)
     }
+}
+
+/// Returns the request that these options make.
+pub(crate) fn request<'m, 'a>(options: &'m ArgMatches<'a>) -> Request<'m, 'a> {
+    Request::Page(PageOptions {
+        title: options.get_str("title"),
+        match_path: options.get_str("match"),
+        headers: HeaderOptions::read(options, "name-x", "name-o"),
+        numbering: numbering_in(options),
+    })
 }
 
 const MATCH: Argument = Argument {
@@ -65,7 +67,6 @@ const MATCH: Argument = Argument {
 pub(crate) static COMMAND: Description = Description {
     name: "page",
     about: "Turn a transcript into a web page",
-    long_about: ABOUT_PAGE,
     after_help: None,
     arguments: &[
         TITLE,

@@ -2,12 +2,13 @@
 
 use crate::arguments::Description;
 use crate::headers::{DATE, EVENT, HeaderOptions, PLACE};
+use crate::requests::Request;
 use crate::shared::{MISPLACED_FILE, NAME_O, NAME_X, NUMBERING, numbering_in};
 use bg_picture::Numbering;
 use clap::ArgMatches;
 
 /// The help on `picture`, with an example.
-const ABOUT_PICTURE: &str =
+pub(crate) const ABOUT_PICTURE: &str =
     "Draw the last position of the transcript on standard input, as an SVG file.
 
     $ bg_relay picture < transcript.txt > board.svg
@@ -30,20 +31,18 @@ pub struct PictureOptions<'a> {
     pub numbering: Numbering,
 }
 
-impl<'a> PictureOptions<'a> {
-    pub(crate) fn read(options: &ArgMatches<'a>) -> PictureOptions<'a> {
-        PictureOptions {
-            headers: HeaderOptions::read(options, NAME_X.name, NAME_O.name),
-            numbering: numbering_in(options),
-        }
-    }
+/// Returns the request that these options make.
+pub(crate) fn request<'m, 'a>(options: &'m ArgMatches<'a>) -> Request<'m, 'a> {
+    Request::Picture(PictureOptions {
+        headers: HeaderOptions::read(options, "name-x", "name-o"),
+        numbering: numbering_in(options),
+    })
 }
 
 /// The command with its options and help.
 pub(crate) static COMMAND: Description = Description {
     name: "picture",
     about: "Draw the last position of a transcript",
-    long_about: ABOUT_PICTURE,
     after_help: None,
     arguments: &[
         NAME_X,

@@ -1,12 +1,13 @@
 //! The options and help of the command of a person who plays at a terminal.
 
 use crate::arguments::{Argument, Description, Kind, Need};
+use crate::requests::Request;
 use crate::shared::{FOLDER, PLAYER, SEAT_KEY, THREE_TERMINALS, number_in, player_in};
 use bg_board::Player;
 use clap::ArgMatches;
 
 /// The help on `play`.
-const ABOUT_PLAY: &str = "Play a match at this terminal, until it is over or you quit.
+pub(crate) const ABOUT_PLAY: &str = "Play a match at this terminal, until it is over or you quit.
 
 Draws the board when it is your turn, and reads the lines that you type; type `help` for a list.
 Your actions are saved in DIR, a folder for this player alone, which is made if it is missing.
@@ -35,7 +36,7 @@ pub struct SeatOptions<'a> {
 impl<'a> SeatOptions<'a> {
     pub(crate) fn read(options: &ArgMatches<'a>) -> Option<SeatOptions<'a>> {
         Some(SeatOptions {
-            player: player_in(options, PLAYER.name),
+            player: player_in(options, "player"),
             match_path: options.get_str("match")?,
             folder: options.get_str("dir")?,
         })
@@ -52,14 +53,13 @@ pub struct PlayOptions<'a> {
     pub plays_forced: bool,
 }
 
-impl<'a> PlayOptions<'a> {
-    pub(crate) fn read(options: &ArgMatches<'a>) -> Option<PlayOptions<'a>> {
-        Some(PlayOptions {
-            seat: SeatOptions::read(options)?,
-            columns: number_in(options, "columns"),
-            plays_forced: options.get_flag("forced"),
-        })
-    }
+/// Returns the request that these options make, if none that it needs is missing.
+pub(crate) fn request<'m, 'a>(options: &'m ArgMatches<'a>) -> Option<Request<'m, 'a>> {
+    Some(Request::Play(PlayOptions {
+        seat: SeatOptions::read(options)?,
+        columns: number_in(options, "columns"),
+        plays_forced: options.get_flag("forced"),
+    }))
 }
 
 const COLUMNS: Argument = Argument {
@@ -80,7 +80,6 @@ const FORCED: Argument = Argument {
 pub(crate) static COMMAND: Description = Description {
     name: "play",
     about: "Play a match at this terminal",
-    long_about: ABOUT_PLAY,
     after_help: Some(THREE_TERMINALS),
     arguments: &[PLAYER, SEAT_KEY, FOLDER, COLUMNS, FORCED],
 };

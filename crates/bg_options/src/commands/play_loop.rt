@@ -1,12 +1,13 @@
 //! The options and help of the command that plays a match over sockets and files.
 
 use crate::arguments::{Argument, Description, Kind, Need};
+use crate::requests::Request;
 use crate::shared::{LENGTH, RULES, SEED, number_in, seed_in, terms_in};
 use bg_match::Terms;
 use clap::ArgMatches;
 
 /// The help on `loop`.
-const ABOUT_LOOP: &str = "Play an automatic match over UDP sockets and files.
+pub(crate) const ABOUT_LOOP: &str = "Play an automatic match over UDP sockets and files.
 
 A referee, two seats and one watcher send each other packets over sockets on 127.0.0.1. They save
 to the files `party-P.S` of DIR, where P is the party and S the slot. With the same folder, seed,
@@ -32,15 +33,14 @@ pub struct LoopOptions<'a> {
     pub folder: &'a str,
 }
 
-impl<'a> LoopOptions<'a> {
-    pub(crate) fn read(options: &ArgMatches<'a>) -> Option<LoopOptions<'a>> {
-        Some(LoopOptions {
-            seed: seed_in(options, "seed")?,
-            terms: terms_in(options)?,
-            rounds: number_in(options, "rounds")?,
-            folder: options.get_str("dir")?,
-        })
-    }
+/// Returns the request that these options make, if none that it needs is missing.
+pub(crate) fn request<'m, 'a>(options: &'m ArgMatches<'a>) -> Option<Request<'m, 'a>> {
+    Some(Request::Loop(LoopOptions {
+        seed: seed_in(options, "seed")?,
+        terms: terms_in(options)?,
+        rounds: number_in(options, "rounds")?,
+        folder: options.get_str("dir")?,
+    }))
 }
 
 const ROUNDS: Argument = Argument {
@@ -61,7 +61,6 @@ const FOLDER: Argument = Argument {
 pub(crate) static COMMAND: Description = Description {
     name: "loop",
     about: "Play an automatic match over UDP sockets and files",
-    long_about: ABOUT_LOOP,
     after_help: None,
     arguments: &[SEED, LENGTH, RULES, ROUNDS, FOLDER],
 };

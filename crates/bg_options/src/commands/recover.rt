@@ -1,11 +1,13 @@
 //! The options and help of the command that rebuilds a referee's folder from what others hold.
 
 use crate::arguments::{Argument, Description, Kind, Need};
+use crate::requests::Request;
 use crate::shared::FOLDER;
 use clap::ArgMatches;
 
 /// The help on `recover`, with an example.
-const ABOUT_RECOVER: &str = "Make a lost referee's folder again from what the seats and others hold.
+pub(crate) const ABOUT_RECOVER: &str =
+    "Make a lost referee's folder again from what the seats and others hold.
 
     $ bg_relay recover --match keys/match-x --keys keys --x x --o o --dir new-table board/transcript
     bg_relay: new-table begins with the 57 entries of board/transcript
@@ -43,17 +45,16 @@ pub struct RecoverOptions<'m, 'a> {
     pub transcripts: &'m [&'a str],
 }
 
-impl<'m, 'a> RecoverOptions<'m, 'a> {
-    pub(crate) fn read(options: &'m ArgMatches<'a>) -> Option<RecoverOptions<'m, 'a>> {
-        Some(RecoverOptions {
-            match_path: options.get_str("match")?,
-            keys: options.get_str("keys"),
-            folder: options.get_str("dir")?,
-            x: options.get_str("x")?,
-            o: options.get_str("o")?,
-            transcripts: options.get_strs("TRANSCRIPT").unwrap_or_default(),
-        })
-    }
+/// Returns the request that these options make, if none that it needs is missing.
+pub(crate) fn request<'m, 'a>(options: &'m ArgMatches<'a>) -> Option<Request<'m, 'a>> {
+    Some(Request::Recover(RecoverOptions {
+        match_path: options.get_str("match")?,
+        keys: options.get_str("keys"),
+        folder: options.get_str("dir")?,
+        x: options.get_str("x")?,
+        o: options.get_str("o")?,
+        transcripts: options.get_strs("TRANSCRIPT").unwrap_or_default(),
+    }))
 }
 
 const MATCH: Argument = Argument {
@@ -95,7 +96,6 @@ const TRANSCRIPTS: Argument = Argument {
 pub(crate) static COMMAND: Description = Description {
     name: "recover",
     about: "Make a lost referee's folder again from what others hold",
-    long_about: ABOUT_RECOVER,
     after_help: None,
     arguments: &[MATCH, KEYS, X, O, FOLDER, TRANSCRIPTS],
 };

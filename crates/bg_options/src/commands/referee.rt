@@ -1,11 +1,12 @@
 //! The options and help of the command that runs the referee of a match.
 
 use crate::arguments::Description;
+use crate::requests::Request;
 use crate::shared::{FOLDER, QUIET_LOG, THREE_TERMINALS};
 use clap::ArgMatches;
 
 /// The help on `referee`.
-const ABOUT_REFEREE: &str = "Run the referee of the match in DIR until it is over.
+pub(crate) const ABOUT_REFEREE: &str = "Run the referee of the match in DIR until it is over.
 
 Logs on standard error when it starts, the result of each game, who comes and goes, and when it
 ends. It ends some seconds after every party has all entries.
@@ -23,20 +24,18 @@ pub struct RefereeOptions<'a> {
     pub is_quiet: bool,
 }
 
-impl<'a> RefereeOptions<'a> {
-    pub(crate) fn read(options: &ArgMatches<'a>) -> Option<RefereeOptions<'a>> {
-        Some(RefereeOptions {
-            folder: options.get_str(FOLDER.name)?,
-            is_quiet: options.get_flag(QUIET_LOG.name),
-        })
-    }
+/// Returns the request that these options make, if none that it needs is missing.
+pub(crate) fn request<'m, 'a>(options: &'m ArgMatches<'a>) -> Option<Request<'m, 'a>> {
+    Some(Request::Referee(RefereeOptions {
+        folder: options.get_str("dir")?,
+        is_quiet: options.get_flag("quiet"),
+    }))
 }
 
 /// The command with its options and help.
 pub(crate) static COMMAND: Description = Description {
     name: "referee",
     about: "Run the referee of a match until it is over",
-    long_about: ABOUT_REFEREE,
     after_help: Some(THREE_TERMINALS),
     arguments: &[FOLDER, QUIET_LOG],
 };

@@ -1,12 +1,13 @@
 //! The options and help of the command that plays a script.
 
 use crate::arguments::Description;
+use crate::requests::Request;
 use crate::shared::{LENGTH, MISPLACED_FILE, RULES, WATCHERS, byte_in, terms_in};
 use bg_match::Terms;
 use clap::ArgMatches;
 
 /// The help on `script`.
-const ABOUT_SCRIPT: &str = "Apply the events on standard input to a match in memory.
+pub(crate) const ABOUT_SCRIPT: &str = "Apply the events on standard input to a match in memory.
 
 Each line is one event: `due WORD`, `take PARTY PICK WORD`, `choose PLAYER ACTION`, `save PARTY`,
 `tick PARTY` or `restart PARTY`. Party 0 is the referee, 1 and 2 are the seats of X and O, and
@@ -27,20 +28,18 @@ pub struct ScriptOptions {
     pub watchers: u8,
 }
 
-impl ScriptOptions {
-    pub(crate) fn read(options: &ArgMatches<'_>) -> Option<ScriptOptions> {
-        Some(ScriptOptions {
-            terms: terms_in(options)?,
-            watchers: byte_in(options, "watchers")?,
-        })
-    }
+/// Returns the request that these options make, if none that it needs is missing.
+pub(crate) fn request<'m, 'a>(options: &'m ArgMatches<'a>) -> Option<Request<'m, 'a>> {
+    Some(Request::Script(ScriptOptions {
+        terms: terms_in(options)?,
+        watchers: byte_in(options, "watchers")?,
+    }))
 }
 
 /// The command with its options and help.
 pub(crate) static COMMAND: Description = Description {
     name: "script",
     about: "Apply the events on standard input to a match in memory",
-    long_about: ABOUT_SCRIPT,
     after_help: None,
     arguments: &[LENGTH, RULES, WATCHERS, MISPLACED_FILE],
 };

@@ -1,11 +1,12 @@
 //! The options and help of the command that serves matches to browsers.
 
 use crate::arguments::{Argument, Description, Kind, Need};
-use crate::shared::number_in;
+use crate::requests::Request;
+use crate::shared::{number_in, port_in};
 use clap::ArgMatches;
 
 /// The help on `serve`.
-const ABOUT_SERVE: &str = "Let people make matches, play and watch in a browser.
+pub(crate) const ABOUT_SERVE: &str = "Let people make matches, play and watch in a browser.
 
 Serves pages at http://127.0.0.1:P. Whoever makes a match there gets a link for each player, and
 one for the watchers. Each match has a folder in DIR, which is made if it is missing. Matches that
@@ -50,16 +51,15 @@ pub struct ServeOptions<'a> {
     pub database: Option<&'a str>,
 }
 
-impl<'a> ServeOptions<'a> {
-    pub(crate) fn read(options: &ArgMatches<'a>) -> Option<ServeOptions<'a>> {
-        Some(ServeOptions {
-            folder: options.get_str(FOLDER.name)?,
-            port: u16::try_from(number_in(options, PORT.name)?).ok()?,
-            idle_hours: number_in(options, IDLE.name)?,
-            tells_requests: options.get_flag(ACCESS_LOG.name),
-            database: options.get_str(STORE.name),
-        })
-    }
+/// Returns the request that these options make, if none that it needs is missing.
+pub(crate) fn request<'m, 'a>(options: &'m ArgMatches<'a>) -> Option<Request<'m, 'a>> {
+    Some(Request::Serve(ServeOptions {
+        folder: options.get_str("dir")?,
+        port: port_in(options, "port")?,
+        idle_hours: number_in(options, "idle")?,
+        tells_requests: options.get_flag("access-log"),
+        database: options.get_str("store"),
+    }))
 }
 
 const FOLDER: Argument = Argument {
@@ -101,7 +101,6 @@ const STORE: Argument = Argument {
 pub(crate) static COMMAND: Description = Description {
     name: "serve",
     about: "Let people play and watch matches in a browser",
-    long_about: ABOUT_SERVE,
     after_help: None,
     arguments: &[FOLDER, PORT, IDLE, ACCESS_LOG, STORE],
 };

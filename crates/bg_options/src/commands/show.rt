@@ -1,10 +1,11 @@
 //! The options and help of the command that shows saved files.
 
 use crate::arguments::{Argument, Description, Kind, Need};
+use crate::requests::Request;
 use clap::ArgMatches;
 
 /// The help on `show`.
-const ABOUT_SHOW: &str =
+pub(crate) const ABOUT_SHOW: &str =
     "Show what saved files hold: the two files of a party, or the six files of a folder.
 
 A party saves its match in two files in turn: even saves in one, odd saves in the other. If a save
@@ -32,14 +33,13 @@ pub struct ShowOptions<'a> {
     pub wants_transcript: bool,
 }
 
-impl<'a> ShowOptions<'a> {
-    pub(crate) fn read(options: &ArgMatches<'a>) -> ShowOptions<'a> {
-        ShowOptions {
-            path0: options.get_str("FILE0").unwrap_or_default(),
-            path1: options.get_str("FILE1"),
-            wants_transcript: options.get_flag("transcript"),
-        }
-    }
+/// Returns the request that these options make.
+pub(crate) fn request<'m, 'a>(options: &'m ArgMatches<'a>) -> Request<'m, 'a> {
+    Request::Show(ShowOptions {
+        path0: options.get_str("FILE0").unwrap_or_default(),
+        path1: options.get_str("FILE1"),
+        wants_transcript: options.get_flag("transcript"),
+    })
 }
 
 const TRANSCRIPT: Argument = Argument {
@@ -67,7 +67,6 @@ const FILE1: Argument = Argument {
 pub(crate) static COMMAND: Description = Description {
     name: "show",
     about: "Show what saved files hold",
-    long_about: ABOUT_SHOW,
     after_help: None,
     arguments: &[TRANSCRIPT, FILE0, FILE1],
 };

@@ -1,12 +1,13 @@
 //! The options and help of the command that plays an automatic match in memory.
 
 use crate::arguments::{Argument, Description, Kind, Need};
+use crate::requests::Request;
 use crate::shared::{LENGTH, RULES, SEED, WATCHERS, byte_in, number_in, seed_in, terms_in};
 use bg_match::Terms;
 use clap::ArgMatches;
 
 /// The help on `sim`.
-const ABOUT_SIM: &str = "Play an automatic match in memory.
+pub(crate) const ABOUT_SIM: &str = "Play an automatic match in memory.
 
 Random events happen to a referee, two seats and watchers: packets are sent and received, players
 act, parties save and restart. The network loses, repeats and reorders packets. Prints the
@@ -32,15 +33,14 @@ pub struct SimOptions {
     pub steps: u32,
 }
 
-impl SimOptions {
-    pub(crate) fn read(options: &ArgMatches<'_>) -> Option<SimOptions> {
-        Some(SimOptions {
-            seed: seed_in(options, "seed")?,
-            terms: terms_in(options)?,
-            watchers: byte_in(options, "watchers")?,
-            steps: number_in(options, "steps")?,
-        })
-    }
+/// Returns the request that these options make, if none that it needs is missing.
+pub(crate) fn request<'m, 'a>(options: &'m ArgMatches<'a>) -> Option<Request<'m, 'a>> {
+    Some(Request::Sim(SimOptions {
+        seed: seed_in(options, "seed")?,
+        terms: terms_in(options)?,
+        watchers: byte_in(options, "watchers")?,
+        steps: number_in(options, "steps")?,
+    }))
 }
 
 const STEPS: Argument = Argument {
@@ -54,7 +54,6 @@ const STEPS: Argument = Argument {
 pub(crate) static COMMAND: Description = Description {
     name: "sim",
     about: "Play an automatic match in memory",
-    long_about: ABOUT_SIM,
     after_help: None,
     arguments: &[SEED, LENGTH, RULES, WATCHERS, STEPS],
 };

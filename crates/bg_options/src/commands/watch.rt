@@ -1,12 +1,13 @@
 //! The options and help of the command that watches a match.
 
 use crate::arguments::{Argument, Description, Kind, Need};
+use crate::requests::Request;
 use crate::shared::{NUMBERING, QUIET_LOG, THREE_TERMINALS, TITLE, numbering_in};
 use bg_picture::Numbering;
 use clap::ArgMatches;
 
 /// The help on `watch`.
-const ABOUT_WATCH: &str =
+pub(crate) const ABOUT_WATCH: &str =
     "Watch a match until it is over: the board at a terminal, the transcript elsewhere.
 
 At a terminal it redraws the board in place, from X's side, with the newest entries below it and
@@ -41,20 +42,19 @@ pub struct WatchOptions<'a> {
     pub is_quiet: bool,
 }
 
-impl<'a> WatchOptions<'a> {
-    pub(crate) fn read(options: &ArgMatches<'a>) -> Option<WatchOptions<'a>> {
-        Some(WatchOptions {
-            match_path: options.get_str("match")?,
-            board: options.get_str("board"),
-            transcript: options.get_str("transcript"),
-            page: options.get_str("page"),
-            title: options.get_str(TITLE.name),
-            numbering: numbering_in(options),
-            goes_on: options.get_flag("go-on"),
-            is_plain: options.get_flag("plain"),
-            is_quiet: options.get_flag(QUIET_LOG.name),
-        })
-    }
+/// Returns the request that these options make, if none that it needs is missing.
+pub(crate) fn request<'m, 'a>(options: &'m ArgMatches<'a>) -> Option<Request<'m, 'a>> {
+    Some(Request::Watch(WatchOptions {
+        match_path: options.get_str("match")?,
+        board: options.get_str("board"),
+        transcript: options.get_str("transcript"),
+        page: options.get_str("page"),
+        title: options.get_str("title"),
+        numbering: numbering_in(options),
+        goes_on: options.get_flag("go-on"),
+        is_plain: options.get_flag("plain"),
+        is_quiet: options.get_flag("quiet"),
+    }))
 }
 
 const MATCH: Argument = Argument {
@@ -105,7 +105,6 @@ const PLAIN: Argument = Argument {
 pub(crate) static COMMAND: Description = Description {
     name: "watch",
     about: "Watch a match",
-    long_about: ABOUT_WATCH,
     after_help: Some(THREE_TERMINALS),
     arguments: &[
         MATCH, BOARD, TRANSCRIPT, PAGE, TITLE, NUMBERING, GO_ON, PLAIN, QUIET_LOG,
