@@ -36,12 +36,14 @@ fn put_broken(text: &mut Vec<u8>, line: &[u8], columns: usize) -> Result<(), All
             _ => word.len(),
         };
         let end = column.saturating_add(1).saturating_add(kept);
-        if column > 0 && end > columns {
-            text.push(b'\n')?;
-            column = 0;
-        } else if column > 0 {
-            text.push(b' ')?;
-            column = column.saturating_add(1);
+        if column > 0 {
+            let has_room = end <= columns;
+            text.push(if has_room { b' ' } else { b'\n' })?;
+            column = if has_room {
+                column.saturating_add(1)
+            } else {
+                0
+            };
         }
         text.extend_from_slice(word)?;
         column = column.saturating_add(word.len());

@@ -1,7 +1,8 @@
 //! The keys in a folder: a secret that they are derived from, or the key files of all parties.
 
 use crate::handed_files::{UNREAD, key_file_of};
-use crate::messages::{failed_with, no_memory, wrong};
+use crate::messages::{failed_with, wrong};
+use crate::paths::file_in;
 use bg_reports::Ending;
 use bg_system::{KeyFile, KeyFiles, MatchFile, Printable, name_of_key_file};
 use bg_wire::{FIRST_WATCHER, SEAT_OF_O, SEAT_OF_X};
@@ -17,9 +18,7 @@ const UNSEEN: &str = "let the process read it: new keys would make the old ones 
 /// Returns whether a referee's folder has a secret that its keys are derived from. Ends with
 /// `Failed` where that can't be seen, or memory runs out.
 pub fn has_key_secret(rt: &HostRuntime, folder: &str) -> Result<bool, Ending> {
-    let Ok(path) = format!(in rt.alloc(); "{folder}/key-secret") else {
-        return Err(no_memory(rt));
-    };
+    let path = file_in(rt, folder, "key-secret")?;
     is_there(rt, path.as_str())
 }
 
@@ -70,9 +69,7 @@ fn key_file_in(
     table: &MatchFile,
     party: u8,
 ) -> Result<KeyFile, Ending> {
-    let Ok(path) = format!(in rt.alloc(); "{folder}/{}", name_of_key_file(party)) else {
-        return Err(no_memory(rt));
-    };
+    let path = file_in(rt, folder, name_of_key_file(party))?;
     let file = key_file_of(rt, path.as_str(), party)?;
     if file.table == *table {
         return Ok(file);
@@ -93,9 +90,7 @@ fn found_in(
     table: &MatchFile,
     party: u8,
 ) -> Result<Option<KeyFile>, Ending> {
-    let Ok(path) = format!(in rt.alloc(); "{folder}/{}", name_of_key_file(party)) else {
-        return Err(no_memory(rt));
-    };
+    let path = file_in(rt, folder, name_of_key_file(party))?;
     if !is_there(rt, path.as_str())? {
         return Ok(None);
     }

@@ -57,16 +57,23 @@ fn match_or(rt: &HostRuntime, path: &str, remedy: &str) -> Result<NamedMatch, En
 /// Reads the key file of a party at a path: 1, 2, or 3 for all watchers. Ends with `WrongArguments`
 /// where it is another party's or isn't one, and with `Failed` where it can't be read.
 pub fn key_file_of(rt: &HostRuntime, path: &str, party: u8) -> Result<KeyFile, Ending> {
+    let file = read_key_file(rt, path)?;
+    if file.party == party {
+        return Ok(file);
+    }
+    let (shown, theirs, own) = (Printable(path), holder(file.party), holder(party));
+    let own_name = name_of_key_file(party);
+    Err(wrong(
+        rt,
+        format_args!("{shown} is the key file of {theirs}: for {own} it is `{own_name}`"),
+    ))
+}
+
+/// Reads the key file of any party at a path. Ends with `WrongArguments` where it isn't one, and
+/// with `Failed` where it can't be read.
+fn read_key_file(rt: &HostRuntime, path: &str) -> Result<KeyFile, Ending> {
     match KeyFile::read(rt, path) {
-        Ok(Some(file)) if file.party == party => Ok(file),
-        Ok(Some(file)) => {
-            let (shown, theirs, own) = (Printable(path), holder(file.party), holder(party));
-            let own_name = name_of_key_file(party);
-            Err(wrong(
-                rt,
-                format_args!("{shown} is the key file of {theirs}: for {own} it is `{own_name}`"),
-            ))
-        }
+        Ok(Some(file)) => Ok(file),
         Ok(None) => Err(no_key_file(rt, path)),
         Err(error) => Err(unread_key(rt, path, &error)),
     }
@@ -83,14 +90,11 @@ pub fn seat_key_file_of(
     if let Some(player) = player {
         return Ok((player, key_file_of(rt, path, party_of(player))?));
     }
-    match KeyFile::read(rt, path) {
-        Ok(Some(file)) => match file.party {
-            SEAT_OF_X => Ok((Player::X, file)),
-            SEAT_OF_O => Ok((Player::O, file)),
-            _ => Err(wrong_at(rt, path, OF_NO_SEAT)),
-        },
-        Ok(None) => Err(no_key_file(rt, path)),
-        Err(error) => Err(unread_key(rt, path, &error)),
+    let file = read_key_file(rt, path)?;
+    match file.party {
+        SEAT_OF_X => Ok((Player::X, file)),
+        SEAT_OF_O => Ok((Player::O, file)),
+        _ => Err(wrong_at(rt, path, OF_NO_SEAT)),
     }
 }
 

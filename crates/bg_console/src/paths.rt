@@ -1,5 +1,7 @@
 //! The paths of files and folders.
 
+use crate::messages::allocated;
+use bg_reports::Ending;
 use bg_system::SlotName;
 use bg_wire::Slot;
 use std::alloc::{AllocError, Global};
@@ -14,6 +16,12 @@ use std::io::ErrorKind;
 pub fn path_in(alloc: Global, folder: &str, name: &str) -> Result<String, AllocError> {
     let slash = if folder.ends_with('/') { "" } else { "/" };
     format!(in alloc; "{folder}{slash}{name}")
+}
+
+/// Returns the path of a file with this name in a folder, behind the folder's name as it is. Ends
+/// with `Failed` where memory runs out.
+pub(crate) fn file_in(rt: &HostRuntime, folder: &str, name: &str) -> Result<String, Ending> {
+    allocated(rt, format!(in rt.alloc(); "{folder}/{name}"))
 }
 
 /// Returns the path of a party's file in a folder.

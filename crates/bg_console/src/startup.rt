@@ -1,7 +1,8 @@
 //! The start of the commands that run one party, and the reasons why they don't start or end early.
 
 use crate::messages::says::say_of;
-use crate::messages::{failed, failed_or, failed_with, no_memory, wrong, wrong_at, wrong_for};
+use crate::messages::{failed, failed_or, failed_with, wrong, wrong_at, wrong_for};
+use crate::paths::file_in;
 use bg_reports::Ending;
 use bg_system::{FolderLock, Printable, Ticking, Waiting};
 use std::fs::{DirBuilder, File, TryLockError};
@@ -128,9 +129,7 @@ const TRIAL: &str = ".bg_relay-trial";
 /// Refuses a folder in which the process may create nothing, since nothing could be saved there.
 /// Ends with `WrongArguments`.
 pub fn check_writable(rt: &HostRuntime, folder: &str) -> Result<(), Ending> {
-    let Ok(trial) = format!(in rt.alloc(); "{folder}/{TRIAL}") else {
-        return Err(no_memory(rt));
-    };
+    let trial = file_in(rt, folder, TRIAL)?;
     // Where one is left, creating it fails for that reason alone.
     check_allowed(rt, folder, fs::remove_dir(rt, trial.as_str()))?;
     let made = DirBuilder::new()
