@@ -1,9 +1,9 @@
 //! The results of files as rows, for programs.
 
 use crate::headers::Headers;
+use crate::inputs::shown;
 use crate::marks::Mark;
 use bg_reports::{RowForm, check_row, is_read_as_match_file, refused_line};
-use bg_system::Printable;
 use bg_text::{Verdict, put_text};
 use std::alloc::{AllocError, Global};
 use std::io;
@@ -64,7 +64,7 @@ pub(crate) fn unread_row(
 /// fields.
 fn content(alloc: Global, form: RowForm, text: &str) -> Result<String, AllocError> {
     match form {
-        RowForm::Tsv => format!(in alloc; "{}", Printable(text)),
+        RowForm::Tsv => shown(alloc, text),
         RowForm::Json => String::from_str(alloc, text),
     }
 }

@@ -4,12 +4,11 @@ pub(crate) mod lists;
 
 use crate::attempts::gathered;
 use crate::check_rows::{HEADINGS, row_of, unread_row};
-use crate::inputs::{STANDARD_INPUT, read_file, read_input};
+use crate::inputs::{STANDARD_INPUT, read_file, read_input, shown};
 use crate::walks::files_below;
 use bg_console::{Progress, allocated, print_text, say, say_of, say_why};
 use bg_options::CheckFormat;
 use bg_reports::{Ending, RowForm, Tally, check_text};
-use bg_system::Printable;
 use bg_text::Verdict;
 use std::alloc::{AllocError, Global};
 use std::io;
@@ -169,7 +168,7 @@ fn report_on(
     bytes: &[u8],
     columns: Option<usize>,
 ) -> Result<(Vec<u8>, bool), AllocError> {
-    let name = format!(in alloc; "{}", Printable(name))?;
+    let name = shown(alloc, name)?;
     let (text, verdict) = check_text(alloc, name.as_str(), bytes, columns)?;
     Ok((text, matches!(verdict, Verdict::Fine(_))))
 }

@@ -129,9 +129,9 @@ pub(crate) fn transcript_as_match_file(
     Ok(text)
 }
 
-/// Returns the name of a file as it is printed.
-fn shown(alloc: Global, name: &str) -> Result<String, AllocError> {
-    format!(in alloc; "{}", Printable(name))
+/// Returns a name or another text as it is printed, with its unprintable characters escaped.
+pub(crate) fn shown(alloc: Global, text: &str) -> Result<String, AllocError> {
+    format!(in alloc; "{}", Printable(text))
 }
 
 /// Reports why an input is refused, as `check` reports it of a file.

@@ -45,13 +45,25 @@ fn longest_of<'a>(
     locks: &mut Vec<FolderLock>,
 ) -> Result<Held<'a>, Ending> {
     let mut longest = Held::nothing(rt, table, options.match_path)?;
-    take_seat(rt, table, Player::X, options.x, locks, &mut longest)?;
-    take_seat(rt, table, Player::O, options.o, locks, &mut longest)?;
+    take_all(rt, table, options, locks, &mut longest)?;
+    Ok(longest)
+}
+
+/// Takes what the seats and the transcripts hold where that is more.
+fn take_all<'a>(
+    rt: &HostRuntime,
+    table: MatchFile,
+    options: &RecoverOptions<'_, 'a>,
+    locks: &mut Vec<FolderLock>,
+    longest: &mut Held<'a>,
+) -> Result<(), Ending> {
+    take_seat(rt, table, Player::X, options.x, locks, longest)?;
+    take_seat(rt, table, Player::O, options.o, locks, longest)?;
     for name in options.transcripts.iter().copied() {
         let saved = saved_of(transcript_of(rt, table, name)?);
         longest.take(rt, Held { name, saved })?;
     }
-    Ok(longest)
+    Ok(())
 }
 
 /// Locks the folder of a seat, and takes what it holds where that is more.

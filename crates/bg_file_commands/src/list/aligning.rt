@@ -18,10 +18,10 @@ pub(crate) fn aligned(alloc: Global, lines: &[u8]) -> Result<Vec<u8>, AllocError
     let widths = widths_of(lines);
     let mut text = Vec::new(alloc);
     if !lines.is_empty() {
-        put_aligned(&mut text, HEADING, widths)?;
+        put_aligned(&mut text, HEADING, &widths)?;
     }
     for line in lines.lines() {
-        put_aligned(&mut text, line, widths)?;
+        put_aligned(&mut text, line, &widths)?;
     }
     Ok(text)
 }
@@ -30,25 +30,28 @@ pub(crate) fn aligned(alloc: Global, lines: &[u8]) -> Result<Vec<u8>, AllocError
 fn put_aligned(
     text: &mut Vec<u8>,
     line: &str,
-    widths: [usize; MOST_PARTS],
+    widths: &[usize; MOST_PARTS],
 ) -> Result<(), AllocError> {
     let Some((front, last)) = line.rsplit_once(BETWEEN) else {
         return Ok(());
     };
-    for (part, width) in front
-        .split(BETWEEN)
-        .zip(widths)
-        .filter(|(_, width)| *width > 0)
-    {
-        let part = if part.is_empty() { NOTHING } else { part };
-        put_text(text, part)?;
-        for _ in columns_of(part)..width {
-            put_text(text, " ")?;
+    for (part, width) in front.split(BETWEEN).zip(widths) {
+        if *width > 0 {
+            put_part(text, part, *width)?;
         }
-        put_text(text, "  ")?;
     }
     put_text(text, last)?;
     put_text(text, "\n")
+}
+
+/// Appends a part of a line, as wide as its column, and the space behind it.
+fn put_part(text: &mut Vec<u8>, part: &str, width: usize) -> Result<(), AllocError> {
+    let part = if part.is_empty() { NOTHING } else { part };
+    put_text(text, part)?;
+    for _ in columns_of(part)..width {
+        put_text(text, " ")?;
+    }
+    put_text(text, "  ")
 }
 
 /// Returns the width of each column: that of its widest part, or of its heading, and 0 where the
