@@ -13,6 +13,8 @@ use bg_processes::{
 };
 use bg_reports::Ending;
 use bg_wire::REFEREE;
+use bg_world::Keeper;
+use std::time::Clock;
 
 /// The message on what isn't a folder.
 const NO_FOLDER: &str = " is no folder: name the one that `bg_relay new` made";
@@ -28,8 +30,6 @@ const NO_KEY_SECRET: &str = "/key-secret could not be read";
 const KEY_SECRET_REMEDY: &str =
     "let this user read it, or put it back; if it is lost, remove it: the key files in the folder do as well";
 
-type Referee<'a> = RefereeProcess<PartySocket<'a, HostRuntime>, FileKeeper<'a, HostRuntime>>;
-
 /// Runs the referee of the match in this folder, until the match is over.
 pub fn run(
     rt: &HostRuntime,
@@ -40,36 +40,18 @@ pub fn run(
     check_folder(rt, folder, NO_FOLDER)?;
     let _lock = lock_of(rt, folder)?;
     tell_if_open(rt, folder);
-    let failures = Failures::new();
     // Each name by itself: else the check of this function is not told what a name is.
     let NamedMatch {
         table,
         names: Names { x, o },
     } = match_in(rt, folder)?;
     check_writable(rt, folder)?;
-    let (mut process, mut waiting, mut ticking) = begin(rt, folder, &table, &failures)?;
-    let Some(record) = process.held() else {
-        return Err(Ending::Failed);
-    };
-    let mut logbook = begun_logbook(rt, is_quiet, table, Names { x, o }, record);
-    let mut reporter = FailureReporter::new(rt, &failures, folder);
     let progress = if is_quiet {
         Progress::start(rt, false)
     } else {
         progress
     };
-    let ended = serve(
-        rt,
-        saves_of(folder, &table),
-        &mut process,
-        &mut waiting,
-        &mut ticking,
-        &mut reporter,
-        &mut logbook,
-        progress,
-    );
-    logbook.end(ended.is_ok());
-    ended
+    play(rt, folder, table, Names { x, o }, is_quiet, progress)
 }
 
 /// Logs that the referee of a match begins with this record, and returns its logbook.
@@ -90,25 +72,44 @@ fn match_in(rt: &HostRuntime, folder: &str) -> Result<NamedMatch, Ending> {
     match_of(rt, path.as_str())
 }
 
-/// Begins the referee of the match in a folder, with this match file, and returns its ways to wait
-/// too. Its devices note their failures in `failures`.
-fn begin<'a>(
-    rt: &'a HostRuntime,
+/// Begins the referee of the match in a folder, which is locked and has this match file, and runs
+/// it until the match is over.
+fn play(
+    rt: &HostRuntime,
     folder: &str,
-    table: &MatchFile,
-    failures: &'a Failures,
-) -> Result<(Referee<'a>, Waiting, Ticking), Ending> {
+    table: MatchFile,
+    names: Names,
+    is_quiet: bool,
+    progress: Progress,
+) -> Result<Ending, Ending> {
+    let failures = Failures::new();
     let key = match read_secret(rt, folder) {
         Ok(key) => key,
         Err(error) => return Err(failed_with(rt, folder, NO_SECRET, &error, SECRET_REMEDY)),
     };
-    let keys = keys_of(rt, folder, table)?;
-    let link = socket_of(rt, table.port, REFEREE, keys, failures)?;
-    let (waiting, ticking) = waiting_for(rt, link.descriptor(), false)?;
-    let keeper = allocated(rt, FileKeeper::new(rt, folder, REFEREE, failures))?;
+    let keys = keys_of(rt, folder, &table)?;
+    let link = socket_of(rt, table.port, REFEREE, keys, &failures)?;
+    let (mut waiting, mut ticking) = waiting_for(rt, link.descriptor(), false)?;
+    let keeper = allocated(rt, FileKeeper::new(rt, folder, REFEREE, &failures))?;
     let attempt = RefereeProcess::begin(rt.alloc(), table.id, table.terms, key, link, keeper);
-    let process = begun(rt, failures, saves_of(folder, table), attempt)?;
-    Ok((process, waiting, ticking))
+    let mut process = begun(rt, &failures, saves_of(folder, &table), attempt)?;
+    let Some(record) = process.held() else {
+        return Err(Ending::Failed);
+    };
+    let mut logbook = begun_logbook(rt, is_quiet, table, names, record);
+    let mut reporter = FailureReporter::new(rt, &failures, folder);
+    let ended = serve(
+        rt,
+        saves_of(folder, &table),
+        &mut process,
+        &mut waiting,
+        &mut ticking,
+        &mut reporter,
+        &mut logbook,
+        progress,
+    );
+    logbook.end(ended.is_ok());
+    ended
 }
 
 /// Returns the saves of the referee of a match in a folder.
@@ -139,11 +140,12 @@ fn keys_of(rt: &HostRuntime, folder: &str, file: &MatchFile) -> Result<Keyring, 
     }
 }
 
-/// Runs rounds until the match is over.
-fn serve(
+/// Runs rounds until the match is over. Over any clock and keeper, as the check takes seconds for
+/// each call of a process over those of the system.
+fn serve<C: Clock, K: Keeper>(
     rt: &HostRuntime,
     saves: OwnSaves<'_>,
-    process: &mut Referee<'_>,
+    process: &mut RefereeProcess<PartySocket<'_, C>, K>,
     waiting: &mut Waiting,
     ticking: &mut Ticking,
     reporter: &mut FailureReporter<'_, HostRuntime>,
@@ -161,8 +163,9 @@ fn serve(
             Err(outcome) => return Err(stopped(rt, saves, &outcome)),
         }
         reporter.check_files()?;
-        logbook.after_round(process.link(), process.held(), tick);
-        let held = match process.held() {
+        let record = process.held();
+        logbook.after_round(process.link(), record, tick);
+        let held = match record {
             Some(record) => record.len(),
             None => 0,
         };
