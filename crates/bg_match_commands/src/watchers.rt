@@ -27,7 +27,12 @@ pub(crate) enum NoWatcher {
 /// this port.
 fn begins_at(beside: &[MatchBeside], port: u16, party: u8) -> bool {
     let own = u32::from(port) + u32::from(party);
-    beside.iter().any(|other| u32::from(other.file.port) == own)
+    for other in beside {
+        if u32::from(other.file.port) == own {
+            return true;
+        }
+    }
+    false
 }
 
 /// Begins a watcher of this match, and returns its number too. `path` and `key` are those of its

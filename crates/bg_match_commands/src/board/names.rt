@@ -24,11 +24,10 @@ pub(crate) fn free_name(
     others: &[BoardMatch<'_>],
 ) -> Result<String, AllocError> {
     let name = name_of(alloc, searched, path, id, false)?;
-    let is_taken = others
-        .iter()
-        .any(|other| other.pages.name.as_str() == name.as_str());
-    if is_taken {
-        return name_of(alloc, searched, path, id, true);
+    for other in others {
+        if other.pages.name.as_str() == name.as_str() {
+            return name_of(alloc, searched, path, id, true);
+        }
     }
     Ok(name)
 }
@@ -43,12 +42,11 @@ fn name_of(
     id: u64,
     is_taken: bool,
 ) -> Result<String, AllocError> {
-    let mut name = String::new(alloc);
-    for part in shown_part(searched, path).chars() {
+    let shown = shown_part(searched, path);
+    let is_bare = shown.is_empty() || shown.starts_with('.');
+    let mut name = String::from_str(alloc, if is_bare { "match" } else { "" })?;
+    for part in shown.chars() {
         name.push(if is_plain(part) { part } else { '-' })?;
-    }
-    if name.is_empty() || name.starts_with('.') {
-        name = format!(in alloc; "match{name}")?;
     }
     if is_taken || name.as_str() == INDEX {
         name = format!(in alloc; "{name}-{id}")?;

@@ -14,5 +14,8 @@ pub(crate) fn put(rt: &HostRuntime, path: &str, text: &[u8]) -> Result<(), Endin
             return Ok(());
         }
     }
-    publish(rt, path, text).map_err(|error| failed_at(rt, path, " could not be written", &error))
+    match publish(rt, path, text) {
+        Ok(()) => Ok(()),
+        Err(error) => Err(failed_at(rt, path, " could not be written", &error)),
+    }
 }

@@ -80,8 +80,10 @@ impl<'a> Reports<'a> {
 
     /// Returns whether nothing was reported of a path yet, and notes that something is now.
     pub(crate) fn is_news(&mut self, path: &str) -> Result<bool, Ending> {
-        if self.reported.iter().any(|other| other.as_str() == path) {
-            return Ok(false);
+        for other in &self.reported {
+            if other.as_str() == path {
+                return Ok(false);
+            }
         }
         let kept = allocated(self.rt, String::from_str(self.rt.alloc(), path))?;
         match self.reported.push(kept) {
