@@ -160,19 +160,26 @@ fn claim(rt: &HostRuntime, seat: &mut Seat<'_>, wanted: &Wanted) -> Result<Optio
             return Err(Ending::ActionRefused);
         }
     }
-    match seat.choose(action.copy())? {
+    let outcome = seat.choose(action.copy())?;
+    let line = outcome_text(&outcome);
+    let told = line.as_str();
+    match outcome {
         Outcome::Chose(Ok(number)) => Ok(Some(number)),
-        Outcome::Chose(Err(fault)) => Err(refused(rt, seat, action, fault)),
-        outcome => {
-            let why = outcome_text(&outcome);
-            Err(failed(rt, format_args!("{UNCLAIMED}: {}", why.as_str())))
-        }
+        Outcome::Chose(Err(fault)) => Err(refused(rt, seat, action, fault, told)),
+        _ => Err(failed(rt, format_args!("{UNCLAIMED}: {told}"))),
     }
 }
 
-/// Reports that an action is refused and, of an illegal one, why in the words of a player.
-fn refused(rt: &HostRuntime, seat: &Seat<'_>, action: &Action, fault: ChooseFault) -> Ending {
-    say(rt, outcome_text(&Outcome::Chose(Err(fault))).as_str());
+/// Reports that an action is refused by the line of its outcome and, of an illegal one, why in the
+/// words of a player.
+fn refused(
+    rt: &HostRuntime,
+    seat: &Seat<'_>,
+    action: &Action,
+    fault: ChooseFault,
+    line: &str,
+) -> Ending {
+    say(rt, line);
     if let (ChooseFault::Illegal(fault), Some(record)) = (fault, seat.record()) {
         let standing = record.standing();
         if let Ok(text) = refusal_text(rt.alloc(), &standing, seat.player, action, fault) {

@@ -6,9 +6,9 @@ use crate::foreign_entries::{NOT_CHOSEN, first_foreign};
 use bg_board::Player;
 use bg_command_parts::{Asked, FailureReporter, OwnSaves, SilenceReporter, stopped};
 use bg_console::{say_number, waited};
-use bg_match::{Action, Number, Record};
+use bg_match::{Action, Actor, Number, Record};
 use bg_processes::{
-    FileKeeper, FolderLock, Going, Liveness, LivenessChange, MatchFile, Names, PartySocket, Ready,
+    FileKeeper, FolderLock, Going, Liveness, LivenessChange, MatchFile, Names, PartySocket,
     SeatProcess, Ticking, Waiting,
 };
 use bg_reports::Ending;
@@ -58,13 +58,22 @@ pub(crate) struct Round {
 }
 
 impl<'a> Seat<'a> {
-    /// Waits, and runs the next round. Reports an entry in the player's name that the seat never
-    /// claimed.
+    /// Waits until a datagram, input or a tick is due, and runs the next round, with a tick if one
+    /// is due. Notes whether the referee is heard of, and reports an entry in the player's name that
+    /// the seat never claimed.
     pub(crate) fn next_round(&mut self) -> Result<Round, Ending> {
-        let (ready, tick) = self.wait()?;
+        let empty_reads = self.link().empty_reads();
+        let next = self
+            .ticking
+            .next_round(self.rt, &mut self.waiting, empty_reads);
+        let (ready, tick) = waited(self.rt, next)?;
         let claim = self.open_claim();
-        let going = self.play(tick)?;
-        let word = self.note_liveness(tick);
+        let played = self.process.round(tick, &mut self.reporter);
+        self.reporter.check_files()?;
+        let going = self.unless_stopped(played)?;
+        let link = self.process.link();
+        let word = self.liveness.after_round(link, tick);
+        self.silence.after_round(link, &self.liveness);
         Ok(Round {
             input: ready.input,
             tick,
@@ -72,30 +81,6 @@ impl<'a> Seat<'a> {
             word,
             foreign: self.news_of_others(&claim),
         })
-    }
-
-    /// Waits until a datagram, input or a tick is due.
-    fn wait(&mut self) -> Result<(Ready, bool), Ending> {
-        let empty_reads = self.link().empty_reads();
-        let next = self
-            .ticking
-            .next_round(self.rt, &mut self.waiting, empty_reads);
-        waited(self.rt, next)
-    }
-
-    /// Runs a round of the process, with a tick if one is due.
-    fn play(&mut self, tick: bool) -> Result<Going, Ending> {
-        let played = self.process.round(tick, &mut self.reporter);
-        self.reporter.check_files()?;
-        self.unless_stopped(played)
-    }
-
-    /// Notes whether the referee is heard of, and returns whether that has changed.
-    fn note_liveness(&mut self, tick: bool) -> Option<LivenessChange> {
-        let link = self.process.link();
-        let change = self.liveness.after_round(link, tick);
-        self.silence.after_round(link, &self.liveness);
-        change
     }
 
     /// Saves at once what waits for a tick, where the process may end.
@@ -142,7 +127,7 @@ impl<'a> Seat<'a> {
     }
 
     /// Returns the record, or `None` where the seat is down. What others want of the process they
-    /// ask the seat: the check takes ten seconds for each function that calls the process.
+    /// ask the seat: the check takes seconds for each function that calls the process.
     pub(crate) fn record(&self) -> Option<&Record> {
         self.process.held()
     }
@@ -150,6 +135,14 @@ impl<'a> Seat<'a> {
     /// Returns the number and the action of the claim that waits for its answer, if one does.
     pub(crate) fn open_claim(&self) -> Option<(Number, Action)> {
         self.process.open_claim()
+    }
+
+    /// Returns whether this player is to act by the record.
+    pub(crate) fn awaits(&self, player: Player) -> bool {
+        match self.record() {
+            Some(record) => record.actor() == Actor::Seat(player),
+            None => false,
+        }
     }
 
     /// Returns whether the player is to act, and no claim waits for its answer.
@@ -164,7 +157,10 @@ impl<'a> Seat<'a> {
 
     /// Returns the number of entries that the seat holds.
     pub(crate) fn held(&self) -> Number {
-        count_of(self.record())
+        match self.record() {
+            Some(record) => record.len(),
+            None => 0,
+        }
     }
 }
 
@@ -174,12 +170,5 @@ fn saves_of<'a>(folder: &'a str, player: Player, table: &'a MatchFile) -> OwnSav
         folder,
         party: party_of(player),
         asked: Asked::File(table),
-    }
-}
-
-fn count_of(held: Option<&Record>) -> Number {
-    match held {
-        Some(record) => record.len(),
-        None => 0,
     }
 }

@@ -1,8 +1,7 @@
 //! The messages on the other player's coming and going.
 
 use crate::play::Table;
-use bg_console::allocated;
-use bg_match::Actor;
+use crate::typed_lines::joined;
 use bg_processes::OpponentChange;
 use bg_reports::Ending;
 use bg_text::letter;
@@ -12,18 +11,14 @@ impl<'a> Table<'a> {
     /// Returns whether there was.
     pub(super) fn tell_of_opponent(&mut self) -> Result<bool, Ending> {
         let opponent = self.player.opponent();
-        let is_awaited = match self.seat.record() {
-            Some(record) => record.actor() == Actor::Seat(opponent),
-            None => false,
-        };
+        let is_awaited = self.seat.awaits(opponent);
         let socket = self.seat.link();
         let change = self.opponent.after_round(self.rt, socket, is_awaited);
         let Some(change) = change else {
             return Ok(false);
         };
-        let (letter, words) = (letter(opponent), words_of(change));
-        let line = allocated(self.rt, format!(in self.rt.alloc(); "{letter}{words}"))?;
-        self.screen.say(line.as_bytes())?;
+        let words = [letter(opponent), words_of(change)];
+        self.screen.say_made(joined(self.rt.alloc(), &words))?;
         Ok(true)
     }
 }
@@ -31,11 +26,11 @@ impl<'a> Table<'a> {
 /// Returns the words on the other player, which stand behind their letter.
 fn words_of(change: OpponentChange) -> &'static str {
     match change {
-        OpponentChange::Missing => " is not here yet",
-        OpponentChange::Came => " is here now",
+        OpponentChange::Missing => "is not here yet",
+        OpponentChange::Came => "is here now",
         OpponentChange::Left => {
-            " is away: nothing was heard of that seat for ten seconds, and the match waits"
+            "is away: nothing was heard of that seat for ten seconds, and the match waits"
         }
-        OpponentChange::Returned => " is back",
+        OpponentChange::Returned => "is back",
     }
 }

@@ -7,9 +7,10 @@ use crate::play::joining::Joining;
 use crate::play::kept_choices::kept_text;
 use crate::play::players::{named_score, players_text};
 use crate::seats::Round;
+use bg_board::Player;
 use bg_command_parts::Silence;
 use bg_console::{allocated, put_entries, written};
-use bg_match::{Actor, Number};
+use bg_match::{Number, Standing};
 use bg_processes::{Going, LivenessChange};
 use bg_reports::Ending;
 use bg_table::{Drawing, prompt_text, result_text, seat_view_text};
@@ -182,12 +183,11 @@ impl<'a> Table<'a> {
         let rt = self.rt;
         let mut text = Vec::new(rt.alloc());
         written(rt, put_entries(&mut text, record, self.shown))?;
-        let acts = going == Going::Over || record.actor() == Actor::Seat(self.player);
-        let stood = self.stood;
-        if let Some(before) = stood {
-            let result = result_text(rt.alloc(), &before, &record.standing(), self.player);
-            let result = allocated(rt, result)?;
-            text = allocated(rt, with_result(rt.alloc(), &text, &result))?;
+        let acts = going == Going::Over || self.seat.awaits(self.player);
+        if let Some(before) = &self.stood {
+            let after = record.standing();
+            let told = with_result(rt.alloc(), &text, before, &after, self.player);
+            text = allocated(rt, told)?;
         }
         self.screen.print(&text)?;
         self.note_shown();
@@ -212,11 +212,18 @@ fn with_score(alloc: Global, view: &[u8], score: &[u8]) -> Result<Vec<u8>, Alloc
     Ok(text)
 }
 
-/// Returns the lines of entries with the result of a game behind the last one of that game: before
-/// the opening of the next one, if that has come too.
-fn with_result(alloc: Global, entries: &[u8], won: &[u8]) -> Result<Vec<u8>, AllocError> {
+/// Returns the lines of the entries between two standings, as this player is told of them: with the
+/// result of a game behind its last entry, before the opening of the next one if that has come too.
+fn with_result(
+    alloc: Global,
+    entries: &[u8],
+    before: &Standing,
+    after: &Standing,
+    player: Player,
+) -> Result<Vec<u8>, AllocError> {
+    let result = result_text(alloc, before, after, player)?;
     let mut text = Vec::new(alloc);
-    let mut rest = won;
+    let mut rest = result.as_slice();
     for line in entries.split_inclusive(|byte| *byte == b'\n') {
         if line.starts_with(OPENING) {
             text.extend_from_slice(rest)?;

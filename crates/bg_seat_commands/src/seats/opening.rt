@@ -1,6 +1,6 @@
 //! Opening a seat: its folder, its socket and its process.
 
-use crate::seats::{Process, Seat, count_of, saves_of};
+use crate::seats::{Process, Seat, saves_of};
 use bg_board::Player;
 use bg_command_parts::{
     Audience, FailureReporter, SilenceReporter, begun, check_seat_folder, socket_of,
@@ -44,12 +44,11 @@ impl<'a> Seat<'a> {
         let (lock, link) = folder_and_link(rt, folder, table.port, party, keys, failures)?;
         let (waiting, ticking) = waiting_for(rt, link.descriptor(), with_input)?;
         let process = begun_process(rt, failures, folder, player, &table, link)?;
-        let known = count_of(process.held());
-        Ok(Seat {
+        let mut seat = Seat {
             rt,
             table,
             player,
-            known,
+            known: 0,
             has_foreign: false,
             process,
             names,
@@ -61,7 +60,9 @@ impl<'a> Seat<'a> {
             liveness: Liveness::new(),
             is_at_table: with_input,
             _lock: lock,
-        })
+        };
+        seat.known = seat.held();
+        Ok(seat)
     }
 }
 
