@@ -57,6 +57,7 @@ pub fn run(
         player: seat.player,
         screen: Screen::new(rt, options.columns, terminal),
         seat,
+        lines: TypedLines::new(rt.alloc()),
         plays_forced: options.plays_forced,
         joining: Joining::Waiting(0),
         caught_up: 0,
@@ -74,13 +75,15 @@ pub fn run(
     table.play()
 }
 
-/// A person's seat, and what they have been shown.
+/// A person's seat, what they have typed, and what they have been shown.
 #[derive(Drop)]
 struct Table<'a> {
     rt: &'a HostRuntime,
     player: Player,
     screen: Screen<'a>,
     seat: Seat<'a>,
+    /// What was typed and is not obeyed yet.
+    lines: TypedLines,
     /// Whether a turn that is the only one is played at once.
     plays_forced: bool,
     /// How far the player has come to the table.
@@ -113,7 +116,6 @@ struct Table<'a> {
 impl<'a> Table<'a> {
     fn play(&mut self) -> Result<Ending, Ending> {
         let mut reader = self.rt.reader();
-        let mut lines = TypedLines::new(self.rt.alloc());
         for _ in 0..u64::MAX {
             let round = self.seat.next_round()?;
             self.join(round)?;
@@ -121,12 +123,12 @@ impl<'a> Table<'a> {
             if round.going == Going::Over {
                 return Ok(Ending::Served);
             }
-            let is_open = !round.input || self.hear(&mut reader, &mut lines)?;
+            let is_open = !round.input || self.hear(&mut reader)?;
             if is_open && !self.is_seated() {
                 continue;
             }
             self.sit_down()?;
-            if self.obey_all(&mut lines)? || !is_open {
+            if self.obey_all()? || !is_open {
                 self.seat.save_now()?;
                 self.screen.say(GOES_ON)?;
                 return Ok(Ending::Served);
@@ -136,12 +138,12 @@ impl<'a> Table<'a> {
     }
 
     /// Reads what was typed. Returns whether more may come.
-    fn hear(&mut self, reader: &mut impl Read, lines: &mut TypedLines) -> Result<bool, Ending> {
+    fn hear(&mut self, reader: &mut impl Read) -> Result<bool, Ending> {
         let mut buffer = [0; 256];
         match reader.read(&mut buffer) {
             Ok(0) => Ok(false),
             Ok(count) => {
-                allocated(self.rt, lines.push(&buffer[..count]))?;
+                allocated(self.rt, self.lines.push(&buffer[..count]))?;
                 Ok(true)
             }
             Err(error) => Err(unread(self.rt, &error)),
@@ -149,9 +151,9 @@ impl<'a> Table<'a> {
     }
 
     /// Obeys the lines that were typed. Returns whether one of them ends the game.
-    fn obey_all(&mut self, lines: &mut TypedLines) -> Result<bool, Ending> {
+    fn obey_all(&mut self) -> Result<bool, Ending> {
         for _ in 0..MOST_LINES {
-            let Some(line) = allocated(self.rt, lines.next(self.rt.alloc()))? else {
+            let Some(line) = allocated(self.rt, self.lines.next(self.rt.alloc()))? else {
                 return Ok(false);
             };
             if self.obey(&line)? {
@@ -166,20 +168,21 @@ impl<'a> Table<'a> {
         let wish = allocated(self.rt, wish_of(self.rt.alloc(), line, self.asks_level))?;
         let is_asked = self.asks_level;
         self.asks_level = false;
-        match wish {
+        let obeyed = match wish {
             Wish::Quit => return Ok(true),
-            Wish::Nothing | Wish::Board => self.look_at_table()?,
-            Wish::Help => self.help()?,
-            Wish::Legal => self.list_turns(0)?,
-            Wish::More => self.list_turns(self.listed)?,
-            Wish::Undo => self.undo()?,
-            Wish::Resign => self.resign()?,
-            Wish::Act(choice) => self.choose(choice.action())?,
+            Wish::Nothing | Wish::Board => self.look_at_table(),
+            Wish::Help => self.help(),
+            Wish::Legal => self.list_turns(0),
+            Wish::More => self.list_turns(self.listed),
+            Wish::Undo => self.undo(),
+            Wish::Resign => self.resign(),
+            Wish::Act(choice) => self.choose(choice.action()),
             Wish::Move if is_asked && typed_steps(self.rt.alloc(), line).is_err() => {
-                self.ask_level()?;
+                self.ask_level()
             }
-            Wish::Move => self.move_by(line)?,
-        }
+            Wish::Move => self.move_by(line),
+        };
+        obeyed?;
         Ok(false)
     }
 

@@ -22,32 +22,27 @@ pub(super) fn answers_text(
         put_text(&mut text, "\n")?;
     }
     if offers.drop {
-        let result = result_of(alloc, standing, &Entry::Dropped, player)?;
-        put_answer(&mut text, "drop: ", &result)?;
+        put_answer(&mut text, "drop: ", standing, &Entry::Dropped, player)?;
     }
     if offers.accept {
-        let result = result_of(alloc, standing, &Entry::Accepted, player)?;
-        put_answer(&mut text, "accept: ", &result)?;
+        put_answer(&mut text, "accept: ", standing, &Entry::Accepted, player)?;
         put_text(&mut text, "reject: the game goes on\n")?;
     }
     Ok(text)
 }
 
-/// Returns the line with the result of a game that this entry would end.
-fn result_of(
-    alloc: Global,
+/// Appends an answer, and the line with the result of the game that its entry would end.
+fn put_answer(
+    text: &mut Vec<u8>,
+    answer: &str,
     standing: &Standing,
     entry: &Entry,
     player: Player,
-) -> Result<Vec<u8>, AllocError> {
-    match standing.next(entry) {
-        Ok(after) => result_text(alloc, standing, &after, player),
-        Err(_) => Ok(Vec::new(alloc)),
-    }
-}
-
-/// Appends an answer and the line of its outcome.
-fn put_answer(text: &mut Vec<u8>, answer: &str, outcome: &[u8]) -> Result<(), AllocError> {
+) -> Result<(), AllocError> {
     put_text(text, answer)?;
-    text.extend_from_slice(outcome)
+    let Ok(after) = standing.next(entry) else {
+        return Ok(());
+    };
+    let result = result_text(*text.allocator(), standing, &after, player)?;
+    text.extend_from_slice(&result)
 }

@@ -80,18 +80,16 @@ fn put_line(
     meaning: &str,
     columns: usize,
 ) -> Result<(), AllocError> {
-    let mut line = Vec::new(*text.allocator());
-    if columns >= COLUMNS_FOR_TWO {
-        put_blanks(text, FIRST)?;
-        put_text(text, typed)?;
-        put_text(&mut line, meaning)?;
-        let rest = SECOND.saturating_sub(FIRST).saturating_sub(typed.len());
-        return put_lines(text, &line, columns.saturating_sub(SECOND), rest, SECOND);
+    if columns < COLUMNS_FOR_TWO {
+        let line = format!(in *text.allocator(); "{typed}: {meaning}")?;
+        let room = columns.saturating_sub(FURTHER);
+        return put_lines(text, line.as_bytes(), room, FIRST, FURTHER);
     }
-    put_text(&mut line, typed)?;
-    put_text(&mut line, ": ")?;
-    put_text(&mut line, meaning)?;
-    put_lines(text, &line, columns.saturating_sub(FURTHER), FIRST, FURTHER)
+    put_blanks(text, FIRST)?;
+    put_text(text, typed)?;
+    let rest = SECOND.saturating_sub(FIRST).saturating_sub(typed.len());
+    let room = columns.saturating_sub(SECOND);
+    put_lines(text, meaning.as_bytes(), room, rest, SECOND)
 }
 
 /// Appends a line, broken to so many columns, with a margin before its first part and one before

@@ -21,21 +21,22 @@ pub(super) fn kept_text(
 
 /// Appends an action, as it is typed.
 fn put_action(text: &mut Vec<u8>, player: Player, action: &Action) -> Result<(), AllocError> {
-    match action {
+    let word = match action {
         Action::Move(turn) => {
             let line = entry_text(Some(player), &Entry::Moved(turn.copy()));
             let (_, words) = line.as_str().split_once(' ').unwrap_or_default();
-            put_text(text, words)
+            return put_text(text, words);
         }
-        Action::Roll => put_text(text, "roll"),
-        Action::Double => put_text(text, "double"),
-        Action::Take => put_text(text, "take"),
-        Action::Drop => put_text(text, "drop"),
         Action::Resign(level) => {
             put_text(text, "resign ")?;
-            put_text(text, level_word(*level))
+            level_word(*level)
         }
-        Action::Accept => put_text(text, "accept"),
-        Action::Reject => put_text(text, "reject"),
-    }
+        Action::Roll => "roll",
+        Action::Double => "double",
+        Action::Take => "take",
+        Action::Drop => "drop",
+        Action::Accept => "accept",
+        Action::Reject => "reject",
+    };
+    put_text(text, word)
 }

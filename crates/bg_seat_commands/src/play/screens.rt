@@ -34,12 +34,19 @@ impl<'a> Screen<'a> {
         said: Option<u32>,
         terminal: Option<Terminal>,
     ) -> Screen<'a> {
-        let found = terminal.map_or(USUAL_COLUMNS, |terminal| terminal.columns);
+        let (found, lines, has_colours) = match terminal {
+            Some(terminal) => (terminal.columns, terminal.lines, terminal.has_colours),
+            None => (USUAL_COLUMNS, USUAL_LINES, false),
+        };
+        let columns = match said {
+            Some(columns) => columns as usize,
+            None => found,
+        };
         Screen {
             rt,
-            columns: said.map_or(found, |columns| columns as usize),
-            lines: terminal.map_or(USUAL_LINES, |terminal| terminal.lines),
-            has_colours: terminal.is_some_and(|terminal| terminal.has_colours),
+            columns,
+            lines,
+            has_colours,
         }
     }
 

@@ -40,10 +40,7 @@ fn without_slash(alloc: Global, step: &[u8]) -> Result<Vec<u8>, AllocError> {
 
 /// Returns whether a word of a line is a step that leads the wrong way.
 fn has_wrong_way(alloc: Global, line: &[u8]) -> Result<bool, AllocError> {
-    let mut rest = line;
-    for _ in 0..line.len() {
-        let end = rest.iter().position(is_gap).unwrap_or(rest.len());
-        let (word, behind) = rest.split_at(end);
+    for word in line.split(is_gap) {
         if let Some(slash) = word.iter().position(is_slash) {
             let (from, to) = word.split_at(slash);
             let turned = step_text(alloc, to.get(1..).unwrap_or_default(), from)?;
@@ -51,7 +48,6 @@ fn has_wrong_way(alloc: Global, line: &[u8]) -> Result<bool, AllocError> {
                 return Ok(true);
             }
         }
-        rest = behind.get(1..).unwrap_or_default();
     }
     Ok(false)
 }
