@@ -59,7 +59,7 @@ impl<'a> Crowd<'a> {
         if free == self.clients.len() {
             self.clients.push(None)?;
         }
-        let client = Box::new(alloc, Client::new(alloc, keys, stream, now)?)?;
+        let client = Client::new(alloc, keys, stream, now)?;
         if let Some(slot) = self.clients.get_mut(free) {
             *slot = Some(client);
         }

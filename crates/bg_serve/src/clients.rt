@@ -1,10 +1,10 @@
 //! A client: a connection that starts with HTTP, and may become a WebSocket.
 
-use crate::exchanges::{answer_http, explain, read_http, write_http};
-use crate::limits::{MOST_BODY, MOST_HEAD, MOST_READS, MOST_WRITES};
+use crate::exchanges::{explanation, new_connection, read_http, write_http};
+use crate::limits::{MOST_READS, MOST_WRITES};
 use bg_site::{Caller, Channel, Peer, Site, Step, Store};
 use bg_world::Keeper;
-use http_server::{Config, Connection};
+use http_server::{Connection, State};
 use mio::net::TcpStream;
 use std::alloc::{AllocError, Global};
 use std::hash::RandomState;
@@ -36,16 +36,6 @@ pub(crate) struct Client {
     pub(crate) asked: u64,
 }
 
-/// Returns the limits on what a client may send in a request.
-pub(crate) fn config() -> Config {
-    let mut config = Config::default();
-    config.limits.max_head_len = MOST_HEAD;
-    config.limits.max_trailers_len = MOST_HEAD;
-    config.max_body_len = MOST_BODY;
-    config.read_size = 2048;
-    config
-}
-
 impl Client {
     /// Returns the client of a new connection, from which nothing has been read.
     ///
@@ -56,13 +46,12 @@ impl Client {
         keys: RandomState,
         stream: TcpStream,
         now: u64,
-    ) -> Result<Client, AllocError> {
-        let http = Box::new(alloc, Connection::new(alloc, keys, config()))?;
-        Ok(Client {
+    ) -> Result<Box<Client>, AllocError> {
+        let client = Client {
             alloc,
             keys,
             stream,
-            http: Some(http),
+            http: Some(new_connection(alloc, keys)?),
             caller: Caller::UNKNOWN,
             upgraded: None,
             channel: None,
@@ -72,7 +61,8 @@ impl Client {
             sent: now,
             heard: now,
             asked: now,
-        })
+        };
+        Ok(Box::new(alloc, client)?)
     }
 
     /// Returns whether it is a WebSocket, and so may get news.
@@ -132,7 +122,8 @@ impl Client {
         }
     }
 
-    /// Reads requests, and answers them.
+    /// Reads requests, and answers them. Notes whose connection it is, and the peer if the site has
+    /// granted a WebSocket.
     fn hear_http<K: Keeper + Drop, S: Store<K> + Drop>(&mut self, site: &mut Site<K, S>) -> Step {
         let Some(connection) = &mut self.http else {
             return Step::Gone;
@@ -141,8 +132,15 @@ impl Client {
             let Some(has_read) = read_http(connection, &mut self.stream) else {
                 return Step::Gone;
             };
-            answer_http(connection, site, &mut self.caller, &mut self.upgraded);
-            explain(self.alloc, self.keys, connection);
+            site.begin_requests(self.caller);
+            connection.advance(site);
+            self.caller = site.caller();
+            if self.upgraded.is_none() && connection.state() == State::Upgraded {
+                self.upgraded = site.take_upgraded();
+            }
+            if let Some(told) = explanation(self.alloc, self.keys, connection) {
+                *connection = told;
+            }
             if !connection.wants_read() {
                 break;
             }

@@ -1,12 +1,10 @@
 //! The exchange of requests and responses with an HTTP client.
 
-use crate::clients::config;
+use crate::limits::{MOST_BODY, MOST_HEAD};
 use bg_pages::{add_common, refuse};
-use bg_site::{Caller, Peer, Site, Store};
-use bg_world::Keeper;
 use bytes::Bytes;
 use http::{Request, StatusCode};
-use http_server::{Connection, Reason, Response, Service, State};
+use http_server::{Config, Connection, Reason, Response, Service, State};
 use mio::net::TcpStream;
 use std::alloc::{AllocError, Global};
 use std::hash::RandomState;
@@ -72,50 +70,15 @@ fn moved(count: io::Result<usize>) -> Option<bool> {
     }
 }
 
-/// Answers the requests that have arrived, and notes in `caller` whose connection it is. If the
-/// site has granted a WebSocket, notes its peer in `upgraded`.
-pub(crate) fn answer_http<K: Keeper + Drop, S: Store<K> + Drop>(
-    connection: &mut Connection,
-    site: &mut Site<K, S>,
-    caller: &mut Caller,
-    upgraded: &mut Option<Peer>,
-) {
-    site.begin_requests(*caller);
-    connection.advance(site);
-    *caller = site.caller();
-    if upgraded.is_none() && connection.state() == State::Upgraded {
-        *upgraded = site.take_upgraded();
-    }
-}
-
-/// A service that answers every request that it is too long to be read.
+/// A service that refuses every request.
 #[derive(Clone, Copy)]
-struct TooLong {
-    status: StatusCode,
-    why: &'static str,
+pub(crate) struct Refusal {
+    pub(crate) status: StatusCode,
+    /// The body of the response.
+    pub(crate) why: &'static str,
 }
 
-impl TooLong {
-    /// Returns the service whose status an answer begins with; `None` if it has another status.
-    fn of(answer: &[u8]) -> Option<TooLong> {
-        let words = answer.strip_prefix(b"HTTP/1.1 ")?;
-        if words.starts_with(b"413") {
-            return Some(TooLong {
-                status: StatusCode::PAYLOAD_TOO_LARGE,
-                why: "a body has at most 4096 bytes: send a shorter one\n",
-            });
-        }
-        if words.starts_with(b"431") {
-            return Some(TooLong {
-                status: StatusCode::REQUEST_HEADER_FIELDS_TOO_LARGE,
-                why: "the head of a request has at most 8192 bytes and 64 headers: send fewer\n",
-            });
-        }
-        None
-    }
-}
-
-impl Service for TooLong {
+impl Service for Refusal {
     ghost answers = { λ _ _ _ _. Unit {0} };
 
     fn call(
@@ -128,18 +91,59 @@ impl Service for TooLong {
     }
 }
 
-/// Says why a request was refused that is too long to be read, unless answers to earlier ones wait
-/// to be sent.
-pub(crate) fn explain(alloc: Global, keys: RandomState, connection: &mut Connection) {
-    let State::Closing(Reason::Refused(_)) = connection.state() else {
-        return;
+/// Returns the connection of a client that has just connected, with the limits on what it may send
+/// in a request.
+///
+/// # Errors
+/// `AllocError` if memory runs out.
+pub(crate) fn new_connection(
+    alloc: Global,
+    keys: RandomState,
+) -> Result<Box<Connection>, AllocError> {
+    let mut config = Config::default();
+    config.limits.max_head_len = MOST_HEAD;
+    config.limits.max_trailers_len = MOST_HEAD;
+    config.max_body_len = MOST_BODY;
+    config.read_size = 2048;
+    Ok(Box::new(alloc, Connection::new(alloc, keys, config))?)
+}
+
+/// Returns what takes the place of a connection that has refused a request because it is too long
+/// to be read: a connection that says why. Returns `None` if it has not, if answers to earlier
+/// requests wait to be sent, or if memory runs out.
+pub(crate) fn explanation(
+    alloc: Global,
+    keys: RandomState,
+    refused: &Connection,
+) -> Option<Box<Connection>> {
+    let State::Closing(Reason::Refused(_)) = refused.state() else {
+        return None;
     };
-    let Some(mut too_long) = TooLong::of(connection.output()) else {
-        return;
+    let Some(mut refusal) = refusal_of(refused.output()) else {
+        return None;
     };
-    let (mut told, mut unread) = (Connection::new(alloc, keys, config()), UNREAD);
-    if told.read_from(&mut unread).is_ok() {
-        told.advance(&mut too_long);
-        *connection = told;
+    let mut told = new_connection(alloc, keys).ok()?;
+    let mut unread = UNREAD;
+    told.read_from(&mut unread).ok()?;
+    told.advance(&mut refusal);
+    Some(told)
+}
+
+/// Returns the refusal whose status an answer begins with, if it is that of a request that is too
+/// long to be read.
+fn refusal_of(answer: &[u8]) -> Option<Refusal> {
+    let words = answer.strip_prefix(b"HTTP/1.1 ")?;
+    if words.starts_with(b"413") {
+        return Some(Refusal {
+            status: StatusCode::PAYLOAD_TOO_LARGE,
+            why: "a body has at most 4096 bytes: send a shorter one\n",
+        });
     }
+    if words.starts_with(b"431") {
+        return Some(Refusal {
+            status: StatusCode::REQUEST_HEADER_FIELDS_TOO_LARGE,
+            why: "the head of a request has at most 8192 bytes and 64 headers: send fewer\n",
+        });
+    }
+    None
 }

@@ -1,14 +1,10 @@
 //! Clients that connect while the server can't save. They are told so, and disconnected.
 
-use crate::clients::config;
 use crate::crowds::Crowd;
-use crate::exchanges::{read_http, write_http};
-use bg_pages::{add_common, refuse};
-use bytes::Bytes;
-use http::{Request, StatusCode};
-use http_server::{Connection, Response, Service};
+use crate::exchanges::{Refusal, new_connection, read_http, write_http};
+use http::StatusCode;
+use http_server::Connection;
 use mio::net::TcpStream;
-use std::alloc::AllocError;
 use std::hash::RandomState;
 use std::io;
 
@@ -20,23 +16,6 @@ const MOST_LOOKS: u32 = 20;
 
 /// The body of the response to a visitor.
 const NOT_NOW: &str = "nothing can be saved at the moment: try again later\n";
-
-/// A service that answers every request with [`NOT_NOW`] and status 503.
-#[derive(Drop)]
-struct NotNow {}
-
-impl Service for NotNow {
-    ghost answers = { λ _ _ _ _. Unit {0} };
-
-    fn call(
-        &mut self,
-        _request: &Request<Bytes>,
-        response: &mut Response,
-    ) -> Result<(), AllocError> {
-        add_common(response)?;
-        refuse(response, StatusCode::SERVICE_UNAVAILABLE, NOT_NOW)
-    }
-}
 
 /// A connection that was accepted while the server waits to save.
 #[derive(Drop)]
@@ -52,7 +31,11 @@ impl Visitor {
     fn look(&mut self) {
         self.looks = self.looks.saturating_add(1);
         let is_there = read_http(&mut self.connection, &mut self.stream).is_some();
-        self.connection.advance(&mut NotNow {});
+        let mut refusal = Refusal {
+            status: StatusCode::SERVICE_UNAVAILABLE,
+            why: NOT_NOW,
+        };
+        self.connection.advance(&mut refusal);
         let told = write_http(&mut self.connection, &mut self.stream);
         let is_told = told == Some(true) && !self.connection.wants_write();
         if !is_there || told.is_none() || is_told {
@@ -82,10 +65,10 @@ impl<'a> Crowd<'a> {
 
     /// Adds a visitor.
     fn visit(&mut self, stream: TcpStream) -> io::Result<()> {
-        let (alloc, keys) = (self.rt.alloc(), RandomState::new(self.rt)?);
+        let keys = RandomState::new(self.rt)?;
         self.visitors.push(Visitor {
             stream,
-            connection: Box::new(alloc, Connection::new(alloc, keys, config()))?,
+            connection: new_connection(self.rt.alloc(), keys)?,
             looks: 0,
         })?;
         Ok(())
