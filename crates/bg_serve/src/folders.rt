@@ -193,13 +193,13 @@ impl<'a> FolderStore<'a> {
         party: u8,
         turn_of: Option<&str>,
     ) -> Result<ServedKeeper<'a>, AllocError> {
+        let counts = self.counts.clone()?;
         let slots = match (&self.turn, turn_of) {
             (Some(turn), Some(name)) => {
                 Some(TurnSlots::new(self.rt.alloc(), turn.clone()?, name, party)?)
             }
             _ => None,
         };
-        let counts = self.counts.clone()?;
         let files = ServedFiles::new(self.rt, path, party, self.failures, slots, counts)?;
         Ok(ServedKeeper::over(files))
     }

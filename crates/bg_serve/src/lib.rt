@@ -18,6 +18,7 @@ mod clusters;
 mod crowds;
 mod database_words;
 mod databases;
+mod durable;
 mod exchanges;
 mod fence;
 mod folders;

@@ -1,5 +1,6 @@
 //! Making a match in a folder of its own.
 
+use crate::durable::sync;
 use crate::folders::FolderStore;
 use crate::seat_files::{random_digits, write_seats};
 use crate::served_keepers::ServedKeeper;
@@ -8,7 +9,7 @@ use bg_dice::{digest_of, write_digest};
 use bg_match::Terms;
 use bg_processes::{MatchFile, NamedMatch, Names, Printable, make_secret, read_secret};
 use bg_site::{Found, Made, Seats};
-use std::fs::{DirBuilder, File};
+use std::fs::DirBuilder;
 use std::io;
 use std::os::unix::fs::DirBuilderExt;
 use std::random::RandomSource;
@@ -85,7 +86,7 @@ impl<'a> FolderStore<'a> {
     /// Writes the match file. This comes last, because a folder without one is not a match.
     fn write_match(&self, path: &str, file: &NamedMatch) -> io::Result<()> {
         file.write(self.rt, path)?;
-        File::open(self.rt, self.folder)?.sync_all()
+        sync(self.rt, self.folder)
     }
 
     /// Returns a random id for a match.

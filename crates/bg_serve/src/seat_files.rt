@@ -1,11 +1,11 @@
 //! The file of a match that says who may play it: the SHA-256 of each seat's secret.
 
-use crate::settling::write_through;
+use crate::durable::{OWNER_ALONE, replace_file};
 use bg_board::Player;
 use bg_console::path_in;
 use bg_site::{Digest, Seats, digest_of};
 use std::alloc::{AllocError, Global};
-use std::fs::{File, OpenOptions};
+use std::fs::OpenOptions;
 use std::io::{ErrorKind, Write};
 use std::os::unix::fs::OpenOptionsExt;
 use std::random::RandomSource;
@@ -13,9 +13,6 @@ use std::{fs, io};
 
 /// The name of the file.
 const NAME: &str = "seats";
-
-/// The mode of a file that only its owner can read and write.
-const OWNER_ALONE: u32 = 0o600;
 
 /// Returns `count` random bytes, at most 16, as hexadecimal digits.
 pub(crate) fn random_digits(rt: &HostRuntime, count: usize) -> io::Result<String> {
@@ -77,12 +74,8 @@ pub(crate) fn replace_seat(
         Player::X => Seats { x: digest, ..seats },
         Player::O => Seats { o: digest, ..seats },
     };
-    let path = path_in(rt.alloc(), folder, NAME)?;
-    let beside = path_in(rt.alloc(), folder, "seats.new")?;
     let text = seats_text(rt.alloc(), &seats)?;
-    write_through(rt, beside.as_str(), text.as_bytes())?;
-    fs::rename(rt, beside.as_str(), path.as_str())?;
-    File::open(rt, folder)?.sync_all()
+    replace_file(rt, folder, NAME, text.as_str())
 }
 
 /// Returns the text of the file: two lines, `x DIGEST` and `o DIGEST`.

@@ -3,15 +3,16 @@
 //! While a folder of matches has a database, a file in the folder names it: the mark. So nobody who
 //! serves or manages the folder overlooks the database.
 
+use crate::durable::{OWNER_ALONE, replace_file, sync, write_through};
 use crate::fence::{Fence, Unsaved};
 use crate::seat_files::random_digits;
 use bg_console::path_in;
 use bg_journal::{Change, Error, ErrorCode, FileText, Journal};
 use bg_processes::read_saved;
 use std::alloc::{AllocError, Global};
-use std::fs::{File, OpenOptions, Permissions};
-use std::io::{ErrorKind, Write};
-use std::os::unix::fs::{OpenOptionsExt, PermissionsExt};
+use std::fs::Permissions;
+use std::io::ErrorKind;
+use std::os::unix::fs::PermissionsExt;
 use std::{fs, io};
 
 /// The name of the mark. No match has a name with a dot.
@@ -25,9 +26,6 @@ pub(crate) const CLUSTER: &str = "etcd:";
 
 /// The error if the database belongs to another folder, or is missing.
 pub(crate) const NOT_THERE: Error = Error::SqliteFailure(ErrorCode::CannotOpen);
-
-/// The mode of a file that only its owner can read and write.
-const OWNER_ALONE: u32 = 0o600;
 
 /// Thirty-two random digits that a folder and its database share.
 pub(crate) type Owner = String;
@@ -113,19 +111,18 @@ pub(crate) fn open_there(rt: &HostRuntime, path: &str) -> Result<Journal, Error>
 pub(crate) fn settle(rt: &HostRuntime, folder: &str, mark: &Mark) -> Result<(), Unusable> {
     let mut journal = open_there(rt, mark.path.as_str())?;
     let files = journal.files()?;
-    match journal.find(OWNER)? {
-        Some(found) if found.as_slice() == mark.owner.as_bytes() => {}
-        None if files.is_empty() => {}
-        _ => return Err(Unusable::Database(NOT_THERE)),
+    let is_its_owner = match journal.find(OWNER)?.as_deref() {
+        Some(owner) => owner == mark.owner.as_bytes(),
+        None => files.is_empty(),
+    };
+    if !is_its_owner {
+        return Err(Unusable::Database(NOT_THERE));
     }
     for file in files.iter() {
         settle_file(rt, folder, file)?;
     }
     journal.clear()?;
-    let path = path_in(rt.alloc(), folder, MARK)?;
-    fs::remove_file(rt, path.as_str())?;
-    File::open(rt, folder)?.sync_all()?;
-    Ok(())
+    Ok(remove_mark(rt, folder)?)
 }
 
 /// Brings a file up to date. Skips files in folders that no longer exist.
@@ -141,21 +138,9 @@ fn settle_file(rt: &HostRuntime, folder: &str, file: &FileText) -> io::Result<()
     if read_saved(rt, path.as_str())? != file.text {
         write_through(rt, path.as_str(), &file.text)?;
     } else {
-        File::open(rt, path.as_str())?.sync_all()?;
+        sync(rt, path.as_str())?;
     }
-    File::open(rt, above.as_str())?.sync_all()
-}
-
-/// Writes a file that only its owner can read and write, and makes it durable.
-pub(crate) fn write_through(rt: &HostRuntime, path: &str, bytes: &[u8]) -> io::Result<()> {
-    let mut file = OpenOptions::new()
-        .write(true)
-        .create(true)
-        .truncate(true)
-        .mode(OWNER_ALONE)
-        .open(rt, path)?;
-    file.write_all(bytes)?;
-    file.sync_all()
+    sync(rt, above.as_str())
 }
 
 /// Gives a folder a database, which is created if it is missing, and notes that in the folder.
@@ -201,10 +186,13 @@ pub(crate) fn write_mark(
     path: &str,
     owner: &str,
 ) -> io::Result<()> {
-    let mark = path_in(rt.alloc(), folder, MARK)?;
-    let beside = path_in(rt.alloc(), folder, ".database.new")?;
     let text = format!(in rt.alloc(); "{owner}\n{path}\n")?;
-    write_through(rt, beside.as_str(), text.as_bytes())?;
-    fs::rename(rt, beside.as_str(), mark.as_str())?;
-    File::open(rt, folder)?.sync_all()
+    replace_file(rt, folder, MARK, text.as_str())
+}
+
+/// Removes the mark of a folder.
+fn remove_mark(rt: &HostRuntime, folder: &str) -> io::Result<()> {
+    let mark = path_in(rt.alloc(), folder, MARK)?;
+    fs::remove_file(rt, mark.as_str())?;
+    sync(rt, folder)
 }

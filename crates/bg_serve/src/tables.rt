@@ -1,5 +1,6 @@
 //! What an operator does with the matches in a folder, whether or not a server runs over it.
 
+use crate::durable::sync;
 use crate::seat_files::{random_digits, read_seats, replace_seat};
 use bg_board::Player;
 use bg_console::{allocated, entries_in, path_in, wrong_at};
@@ -7,7 +8,7 @@ use bg_processes::{NamedMatch, Names};
 use bg_reports::Ending;
 use bg_requests::is_name;
 use bg_stores::{copy_match, hide, show, tell_change};
-use std::fs::{DirBuilder, File};
+use std::fs::DirBuilder;
 use std::io::ErrorKind;
 use std::os::unix::fs::DirBuilderExt;
 use std::{fs, io};
@@ -106,7 +107,7 @@ impl<'a> Tables<'a> {
         // What is left of an earlier deletion that was interrupted by a kill is removed first.
         let _ = fs::remove_dir_all(self.rt, gone.as_str());
         fs::rename(self.rt, path, gone.as_str())?;
-        File::open(self.rt, self.folder)?.sync_all()?;
+        sync(self.rt, self.folder)?;
         fs::remove_dir_all(self.rt, gone.as_str())
     }
 
@@ -120,7 +121,7 @@ impl<'a> Tables<'a> {
             copy_match(self.rt, from.as_str(), to.as_str())?;
             count = count.saturating_add(1);
         }
-        File::open(self.rt, out)?.sync_all()?;
+        sync(self.rt, out)?;
         Ok(count)
     }
 
@@ -146,7 +147,7 @@ impl<'a> Tables<'a> {
             return Err(error);
         }
         fs::rename(self.rt, beside.as_str(), to.as_str())?;
-        File::open(self.rt, self.folder)?.sync_all()?;
+        sync(self.rt, self.folder)?;
         Ok(true)
     }
 
