@@ -158,17 +158,26 @@ impl<'a> Cluster<'a> {
         for change in fresh.iter() {
             match change {
                 Change::Put(file) => self.pending.add_file(&self.known, file)?,
-                Change::Remove(folder) => {
-                    self.pending.add_removal(&self.known, folder.as_str())?;
-                    self.known.forget(folder.as_str());
-                    let folder = String::from_str(self.rt.alloc(), folder.as_str())?;
-                    if let Ok(mut behind) = saves.behind.try_borrow_mut() {
-                        behind.note(Change::Remove(folder));
-                    }
-                }
+                Change::Remove(folder) => self.gather_removal(folder.as_str())?,
             }
         }
         fresh.clear();
+        Ok(())
+    }
+
+    /// Adds a match to those to be removed from the store.
+    fn gather_removal(&mut self, folder: &str) -> Result<(), Trouble> {
+        self.pending.add_removal(&self.known, folder)?;
+        self.known.forget(folder);
+        self.note_removal(folder)
+    }
+
+    /// Notes that the files of a match that are older than the store are gone.
+    pub(crate) fn note_removal(&self, folder: &str) -> Result<(), Trouble> {
+        let folder = String::from_str(self.rt.alloc(), folder)?;
+        if let Ok(mut behind) = self.saves.behind.try_borrow_mut() {
+            behind.note(Change::Remove(folder));
+        }
         Ok(())
     }
 

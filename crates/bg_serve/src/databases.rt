@@ -81,15 +81,15 @@ impl<'a> Database<'a> {
     /// The reason why they can't be made durable. Nothing is lost: the next call tries again.
     pub(crate) fn commit(&mut self) -> Result<(), Unsaved> {
         let saves = self.saves.clone()?;
-        let (Ok(mut fresh), Ok(mut behind)) = (
-            saves.fresh.try_borrow_mut(),
-            saves.behind.try_borrow_mut(),
-        ) else {
+        let Ok(mut fresh) = saves.fresh.try_borrow_mut() else {
             return Ok(());
         };
         if fresh.is_empty() {
             return Ok(());
         }
+        let Ok(mut behind) = saves.behind.try_borrow_mut() else {
+            return Ok(());
+        };
         behind.reserve(fresh.len())?;
         let begun = Instant::now(self.rt).ok();
         let result = self.write(&fresh);

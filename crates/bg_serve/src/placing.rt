@@ -79,10 +79,7 @@ impl<'a> Cluster<'a> {
     /// Removes the folder of a match.
     pub(crate) fn remove(&self, folder: &str) -> Result<(), Trouble> {
         self.forget_length(folder);
-        let name = String::from_str(self.rt.alloc(), folder)?;
-        if let Ok(mut behind) = self.saves.behind.try_borrow_mut() {
-            behind.note(Change::Remove(name));
-        }
+        self.note_removal(folder)?;
         Ok(self.copies.remove(folder)?)
     }
 }

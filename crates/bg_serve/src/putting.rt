@@ -23,14 +23,11 @@ impl<'a> Cluster<'a> {
     /// Removes a match from the store, even if others have changed it meanwhile. Its revision is
     /// compared nevertheless, so that a late request doesn't remove a match that was restored.
     fn put_removal(&mut self) -> Result<(), Trouble> {
-        let alloc = self.rt.alloc();
         let Some(removal) = self.pending.removals.last() else {
             return Ok(());
         };
-        let text = removal_text(alloc, removal.folder.as_str(), removal.known)?;
-        let (status, body) = self.ask_awhile("/v3/kv/txn", text.as_str())?;
-        let taken = taken_in(alloc, status, &body)?;
-        self.check_age(taken.revision)?;
+        let text = removal_text(self.rt.alloc(), removal.folder.as_str(), removal.known)?;
+        let taken = self.put(text.as_str())?;
         if taken.is_taken || taken.files.is_empty() {
             self.note_removed(taken.revision)?;
         } else if let Some(removal) = self.pending.removals.last_mut() {
@@ -41,13 +38,10 @@ impl<'a> Cluster<'a> {
 
     /// Puts the changes of as many matches as fit into one transaction.
     fn put_some(&mut self) -> Result<(), Trouble> {
-        let alloc = self.rt.alloc();
         let count = self.pending.batch();
         let some = self.pending.changes.get(..count).unwrap_or_default();
-        let text = transaction_text(alloc, some)?;
-        let (status, body) = self.ask_awhile("/v3/kv/txn", text.as_str())?;
-        let taken = taken_in(alloc, status, &body)?;
-        self.check_age(taken.revision)?;
+        let text = transaction_text(self.rt.alloc(), some)?;
+        let taken = self.put(text.as_str())?;
         if taken.is_taken {
             return self.note_taken(count, taken.revision);
         }
@@ -56,6 +50,14 @@ impl<'a> Cluster<'a> {
             return Ok(());
         }
         self.note_refused(taken)
+    }
+
+    /// Sends a transaction, and waits a while for its result. Refuses that of an older store.
+    fn put(&mut self, transaction: &str) -> Result<Taken, Trouble> {
+        let (status, body) = self.ask_awhile("/v3/kv/txn", transaction)?;
+        let taken = taken_in(self.rt.alloc(), status, &body)?;
+        self.check_age(taken.revision)?;
+        Ok(taken)
     }
 
     /// Notes that the last of the pending removals was made at a revision.
