@@ -54,14 +54,11 @@ impl<'a> Crowd<'a> {
         stream: TcpStream,
         now: u64,
     ) -> Result<(), AllocError> {
-        let alloc = self.rt.alloc();
+        let client = Client::new(self.rt.alloc(), keys, stream, now)?;
         self.again.push(free)?;
-        if free == self.clients.len() {
-            self.clients.push(None)?;
-        }
-        let client = Client::new(alloc, keys, stream, now)?;
-        if let Some(slot) = self.clients.get_mut(free) {
-            *slot = Some(client);
+        match self.clients.get_mut(free) {
+            Some(slot) => *slot = Some(client),
+            None => self.clients.push(Some(client))?,
         }
         Ok(())
     }

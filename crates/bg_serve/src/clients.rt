@@ -1,6 +1,6 @@
 //! A client: a connection that starts with HTTP, and may become a WebSocket.
 
-use crate::exchanges::{explanation, new_connection, read_http, write_http};
+use crate::exchanges::{explain, new_connection, read_http, write_http};
 use crate::limits::{MOST_READS, MOST_WRITES};
 use bg_site::{Caller, Channel, Peer, Site, Step, Store};
 use bg_world::Keeper;
@@ -63,11 +63,6 @@ impl Client {
             asked: now,
         };
         Ok(Box::new(alloc, client)?)
-    }
-
-    /// Returns whether it is a WebSocket, and so may get news.
-    pub(crate) fn is_live(&self) -> bool {
-        self.channel.is_some()
     }
 
     /// Returns whether a pending answer may depend on one of these matches. For HTTP, any pending
@@ -138,9 +133,7 @@ impl Client {
             if self.upgraded.is_none() && connection.state() == State::Upgraded {
                 self.upgraded = site.take_upgraded();
             }
-            if let Some(told) = explanation(self.alloc, self.keys, connection) {
-                *connection = told;
-            }
+            explain(self.alloc, self.keys, connection);
             if !connection.wants_read() {
                 break;
             }
@@ -157,21 +150,29 @@ impl Client {
         site: &mut Site<K, S>,
         now: u64,
     ) -> Step {
+        match self.send_answers(now) {
+            Some(step) => step,
+            None => self.end_http(site, now),
+        }
+    }
+
+    /// Sends answers. Returns `None` if the connection has no more to send or to read.
+    fn send_answers(&mut self, now: u64) -> Option<Step> {
+        let Some(connection) = &mut self.http else {
+            return None;
+        };
         for _ in 0..MOST_WRITES {
-            let Some(connection) = &mut self.http else {
-                return Step::Gone;
-            };
             if connection.is_done() {
-                return self.end_http(site, now);
+                return None;
             }
             match write_http(connection, &mut self.stream) {
-                None => return Step::Gone,
-                Some(false) if connection.wants_write() => return Step::Waits,
-                Some(false) => return self.state,
+                None => return Some(Step::Gone),
+                Some(false) if connection.wants_write() => return Some(Step::Waits),
+                Some(false) => return Some(self.state),
                 Some(true) => self.since = now,
             }
         }
-        Step::More
+        Some(Step::More)
     }
 
     /// Turns the client into a WebSocket if that was granted; otherwise it is gone.

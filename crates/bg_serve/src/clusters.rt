@@ -6,14 +6,10 @@ use crate::save_counts::{SaveCounts, micros_since};
 use bg_etcd::{Changes, Fault};
 use bg_journal::Change;
 use bg_stores::{Answer, Copies, Known, Members, Pending, Trouble, TurnSaves, Watch};
-use mio::{Events, Poll};
 use std::alloc::AllocError;
-use std::io;
+use std::mem;
 use std::rc::Rc;
-use std::time::{Duration, Instant};
-
-/// The milliseconds between two attempts to put saves into the store.
-const BETWEEN_COMMITS: u64 = 100;
+use std::time::Instant;
 
 /// The store of a server. It is large, so it is boxed.
 #[derive(Drop)]
@@ -98,17 +94,21 @@ impl<'a> Cluster<'a> {
         if self.is_pulse_due {
             self.put_pulse()?;
         }
-        if !self.pending.is_empty() {
-            let begun = Instant::now(self.rt).ok();
-            let result = self.put_all();
-            let has_failed = !matches!(result, Ok(()) | Err(Trouble::NotYet));
-            self.counts
-                .note_commit(!has_failed, micros_since(self.rt, begun));
-            result?;
+        self.put_pending()?;
+        Ok(mem::replace(&mut self.lost, Vec::new(self.rt.alloc())))
+    }
+
+    /// Puts what is pending into the store, and counts that.
+    fn put_pending(&mut self) -> Result<(), Trouble> {
+        if self.pending.is_empty() {
+            return Ok(());
         }
-        let mut lost = Vec::new(self.rt.alloc());
-        lost.append(&mut self.lost)?;
-        Ok(lost)
+        let begun = Instant::now(self.rt).ok();
+        let result = self.put_all();
+        let has_failed = !matches!(result, Ok(()) | Err(Trouble::NotYet));
+        self.counts
+            .note_commit(!has_failed, micros_since(self.rt, begun));
+        result
     }
 
     /// Adds changes of a match to the pending ones.
@@ -149,10 +149,16 @@ impl<'a> Cluster<'a> {
     /// Moves the saves of the turn to the pending changes of their matches.
     fn gather(&mut self) -> Result<(), Trouble> {
         let saves = self.saves.clone()?;
-        let Ok(mut fresh) = saves.fresh.try_borrow_mut() else {
-            return Ok(());
-        };
-        if let Ok(mut behind) = saves.behind.try_borrow_mut() {
+        if let Ok(mut fresh) = saves.fresh.try_borrow_mut() {
+            self.gather_all(&fresh)?;
+            fresh.clear();
+        }
+        Ok(())
+    }
+
+    /// Adds saves to the pending changes of their matches.
+    fn gather_all(&mut self, fresh: &[Change]) -> Result<(), Trouble> {
+        if let Ok(mut behind) = self.saves.behind.try_borrow_mut() {
             behind.reserve(fresh.len())?;
         }
         for change in fresh.iter() {
@@ -161,7 +167,6 @@ impl<'a> Cluster<'a> {
                 Change::Remove(folder) => self.gather_removal(folder.as_str())?,
             }
         }
-        fresh.clear();
         Ok(())
     }
 
@@ -195,15 +200,5 @@ impl<'a> Cluster<'a> {
             let copies = self.copies;
             behind.files.retain(|file| copies.write_named(file.name.as_str(), &file.text).is_err());
         }
-    }
-
-    /// Pauses after a failed attempt to ask the store.
-    ///
-    /// # Errors
-    /// The reason why the process can't wait.
-    pub(crate) fn pause(&self) -> io::Result<()> {
-        let mut poll = Poll::new(self.rt)?;
-        let mut events = Events::with_capacity(self.rt.alloc(), 1)?;
-        poll.poll(&mut events, Some(Duration::from_millis(BETWEEN_COMMITS)))
     }
 }

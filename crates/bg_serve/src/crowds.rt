@@ -7,6 +7,7 @@ use bg_site::{Site, Step, Store};
 use bg_stores::WATCH;
 use bg_world::Keeper;
 use mio::Token;
+use std::alloc::AllocError;
 use std::io;
 use std::net::SocketAddr;
 
@@ -72,12 +73,12 @@ impl<'a> Crowd<'a> {
     /// that had more to do. Sends nothing yet.
     ///
     /// # Errors
-    /// `OutOfMemory` only, as for the other steps.
+    /// `AllocError` if memory runs out, as for the other steps.
     pub(crate) fn hear_ready<K: Keeper + Drop, S: Store<K> + Drop>(
         &mut self,
         site: &mut Site<K, S>,
         now: u64,
-    ) -> io::Result<()> {
+    ) -> Result<(), AllocError> {
         self.gather_ready()?;
         for index in self.heard.iter() {
             if let Some(Some(client)) = self.clients.get_mut(*index) {
@@ -88,7 +89,7 @@ impl<'a> Crowd<'a> {
     }
 
     /// Collects the clients that are to be heard in this turn.
-    fn gather_ready(&mut self) -> io::Result<()> {
+    fn gather_ready(&mut self) -> Result<(), AllocError> {
         self.heard.clear();
         self.heard.append(&mut self.again)?;
         for event in &self.sockets.events {
@@ -105,7 +106,7 @@ impl<'a> Crowd<'a> {
         &mut self,
         site: &mut Site<K, S>,
         now: u64,
-    ) -> io::Result<()> {
+    ) -> Result<(), AllocError> {
         for at in 0..self.heard.len() {
             let Some(index) = self.heard.get(at).copied() else {
                 return Ok(());
@@ -145,13 +146,15 @@ impl<'a> Crowd<'a> {
         site: &mut Site<K, S>,
         index: usize,
         step: Step,
-    ) -> io::Result<()> {
+    ) -> Result<(), AllocError> {
         match step {
-            Step::Waits => {}
-            Step::More => self.again.push(index)?,
-            Step::Gone => self.close(site, index),
+            Step::Waits => Ok(()),
+            Step::More => Ok(self.again.push(index)?),
+            Step::Gone => {
+                self.close(site, index);
+                Ok(())
+            }
         }
-        Ok(())
     }
 
     /// Closes a client.
@@ -178,15 +181,16 @@ impl<'a> Crowd<'a> {
         now: u64,
     ) {
         self.is_accepting = true;
-        let connections = self.clients.iter().flatten().count();
-        site.note_connections(connections as u64);
+        let mut connections = 0u64;
         for index in 0..self.clients.len() {
             if let Some(Some(client)) = self.clients.get_mut(index) {
+                connections = connections.saturating_add(1);
                 if !client.may_stay(site, now) {
                     self.close(site, index);
                 }
             }
         }
+        site.note_connections(connections);
     }
 
     /// Sends each WebSocket what its peer lacks.
@@ -194,13 +198,12 @@ impl<'a> Crowd<'a> {
         &mut self,
         site: &mut Site<K, S>,
         now: u64,
-    ) -> io::Result<()> {
+    ) -> Result<(), AllocError> {
         for index in 0..self.clients.len() {
-            let step = match self.clients.get_mut(index) {
-                Some(Some(client)) if client.is_live() => client.send(site, now),
-                _ => Step::Waits,
-            };
-            self.note(site, index, step)?;
+            if let Some(Some(client)) = self.clients.get_mut(index) {
+                let step = client.send(site, now);
+                self.note(site, index, step)?;
+            }
         }
         Ok(())
     }

@@ -2,7 +2,7 @@
 
 use crate::cluster_words::is_copy;
 use crate::fence::Unsaved;
-use crate::settling::{CLUSTER, Unusable, read_mark, settle};
+use crate::settling::{CLUSTER, Mark, NOT_THERE, Unusable, read_mark, settle};
 use bg_console::{failed, failed_at, say, wrong};
 use bg_journal::{Error, ErrorCode};
 use bg_processes::Printable;
@@ -16,20 +16,30 @@ pub(crate) fn settle_first(
     folder: &str,
     database: Option<&str>,
 ) -> Result<(), Ending> {
-    let mark = match read_mark(rt, folder) {
-        Ok(Some(mark)) => mark,
-        Ok(None) => return Ok(()),
-        Err(error) => return Err(failed_at(rt, folder, "/.database could not be read", &error)),
-    };
-    if mark.path.as_str().starts_with(CLUSTER) {
+    match read_mark(rt, folder) {
+        Ok(Some(mark)) => settle_marked(rt, folder, &mark, database),
+        Ok(None) => Ok(()),
+        Err(error) => Err(failed_at(rt, folder, "/.database could not be read", &error)),
+    }
+}
+
+/// Brings the files of a folder with a mark up to date.
+fn settle_marked(
+    rt: &HostRuntime,
+    folder: &str,
+    mark: &Mark,
+    database: Option<&str>,
+) -> Result<(), Ending> {
+    let path = mark.path.as_str();
+    if path.starts_with(CLUSTER) {
         return match database {
             Some(words) if words.starts_with(CLUSTER) => Ok(()),
-            _ => Err(is_copy(rt, folder, mark.path.as_str())),
+            _ => Err(is_copy(rt, folder, path)),
         };
     }
-    match settle(rt, folder, &mark) {
+    match settle(rt, folder, mark) {
         Ok(()) => {
-            let path = Printable(mark.path.as_str());
+            let path = Printable(path);
             say(
                 rt,
                 format_args!("the folders are brought up to date from the database {path}"),
@@ -42,13 +52,8 @@ pub(crate) fn settle_first(
             " could not be brought up to date from its database",
             &error,
         )),
-        Err(Unusable::Database(error)) => Err(not_settled(rt, folder, mark.path.as_str(), error)),
-        Err(Unusable::Anothers) => Err(not_settled(
-            rt,
-            folder,
-            mark.path.as_str(),
-            Error::SqliteFailure(ErrorCode::CannotOpen),
-        )),
+        Err(Unusable::Database(error)) => Err(not_settled(rt, folder, path, error)),
+        Err(Unusable::Anothers) => Err(not_settled(rt, folder, path, NOT_THERE)),
     }
 }
 

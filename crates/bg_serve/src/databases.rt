@@ -9,15 +9,11 @@ use crate::save_counts::{SaveCounts, micros_since};
 use crate::settling::{NOT_THERE, Unusable, begin};
 use bg_console::path_in;
 use bg_journal::{Change, FileText, Journal};
-use bg_stores::{TurnSaves, overwrite};
-use mio::{Events, Poll};
+use bg_stores::{Behind, TurnSaves, overwrite};
 use std::alloc::AllocError;
 use std::io;
 use std::rc::Rc;
-use std::time::{Duration, Instant};
-
-/// The milliseconds between two attempts to commit.
-const BETWEEN_COMMITS: u64 = 100;
+use std::time::Instant;
 
 /// The database of a server. It is large, so it is boxed.
 #[derive(Drop)]
@@ -81,18 +77,22 @@ impl<'a> Database<'a> {
     /// The reason why they can't be made durable. Nothing is lost: the next call tries again.
     pub(crate) fn commit(&mut self) -> Result<(), Unsaved> {
         let saves = self.saves.clone()?;
-        let Ok(mut fresh) = saves.fresh.try_borrow_mut() else {
-            return Ok(());
-        };
+        if let Ok(mut fresh) = saves.fresh.try_borrow_mut() {
+            if let Ok(mut behind) = saves.behind.try_borrow_mut() {
+                return self.commit_all(&mut fresh, &mut behind);
+            }
+        }
+        Ok(())
+    }
+
+    /// Makes these changes durable, and notes that their files are behind.
+    fn commit_all(&mut self, fresh: &mut Vec<Change>, behind: &mut Behind) -> Result<(), Unsaved> {
         if fresh.is_empty() {
             return Ok(());
         }
-        let Ok(mut behind) = saves.behind.try_borrow_mut() else {
-            return Ok(());
-        };
         behind.reserve(fresh.len())?;
         let begun = Instant::now(self.rt).ok();
-        let result = self.write(&fresh);
+        let result = self.write(fresh.as_slice());
         self.counts
             .note_commit(result.is_ok(), micros_since(self.rt, begun));
         result?;
@@ -115,16 +115,6 @@ impl<'a> Database<'a> {
                 .files
                 .retain(|file| write_file(rt, folder, file).is_err());
         }
-    }
-
-    /// Pauses after a failed commit.
-    ///
-    /// # Errors
-    /// The reason why the process can't wait.
-    pub(crate) fn pause(&self) -> io::Result<()> {
-        let mut poll = Poll::new(self.rt)?;
-        let mut events = Events::with_capacity(self.rt.alloc(), 1)?;
-        poll.poll(&mut events, Some(Duration::from_millis(BETWEEN_COMMITS)))
     }
 
     /// Writes changes to the database. After a failure, the next call opens it again.

@@ -1,13 +1,26 @@
-//! Writing files durably.
+//! Reading files, and writing them durably.
 
 use bg_console::path_in;
 use std::fs::{File, OpenOptions};
-use std::io::Write;
+use std::io::{ErrorKind, Write};
 use std::os::unix::fs::OpenOptionsExt;
 use std::{fs, io};
 
 /// The mode of a file that only its owner can read and write.
 pub(crate) const OWNER_ALONE: u32 = 0o600;
+
+/// Returns the text of a file of a folder; `None` if there is no such file.
+///
+/// # Errors
+/// The reason why it can't be read; `InvalidData` if it isn't text.
+pub(crate) fn read_text(rt: &HostRuntime, folder: &str, name: &str) -> io::Result<Option<String>> {
+    let path = path_in(rt.alloc(), folder, name)?;
+    match fs::read_to_string(rt, path.as_str()) {
+        Ok(text) => Ok(Some(text)),
+        Err(error) if error.kind() == ErrorKind::NotFound => Ok(None),
+        Err(error) => Err(error),
+    }
+}
 
 /// Makes a file durable, or the entries of a folder.
 ///

@@ -108,42 +108,47 @@ pub(crate) fn new_connection(
     Ok(Box::new(alloc, Connection::new(alloc, keys, config))?)
 }
 
-/// Returns what takes the place of a connection that has refused a request because it is too long
-/// to be read: a connection that says why. Returns `None` if it has not, if answers to earlier
-/// requests wait to be sent, or if memory runs out.
-pub(crate) fn explanation(
-    alloc: Global,
-    keys: RandomState,
-    refused: &Connection,
-) -> Option<Box<Connection>> {
-    let State::Closing(Reason::Refused(_)) = refused.state() else {
-        return None;
-    };
-    let Some(mut refusal) = refusal_of(refused.output()) else {
-        return None;
-    };
+/// Replaces a connection that has refused a request by one that says why. Leaves it as it is if it
+/// has refused none, if answers to earlier requests wait to be sent, or if memory runs out.
+pub(crate) fn explain(alloc: Global, keys: RandomState, connection: &mut Box<Connection>) {
+    if let State::Closing(Reason::Refused(_)) = connection.state() {
+        if let Some(mut refusal) = refusal_of(connection.output()) {
+            if let Some(told) = refusing(alloc, keys, &mut refusal) {
+                *connection = told;
+            }
+        }
+    }
+}
+
+/// Returns a connection that has refused a request. Returns `None` if memory runs out.
+fn refusing(alloc: Global, keys: RandomState, refusal: &mut Refusal) -> Option<Box<Connection>> {
     let mut told = new_connection(alloc, keys).ok()?;
     let mut unread = UNREAD;
     told.read_from(&mut unread).ok()?;
-    told.advance(&mut refusal);
+    told.advance(refusal);
     Some(told)
 }
 
-/// Returns the refusal whose status an answer begins with, if it is that of a request that is too
-/// long to be read.
+/// Returns the refusal that has the status of an answer, and says why. Returns `None` if the answer
+/// isn't one without a body, with which a connection refuses what it can't read, or if it follows
+/// others.
 fn refusal_of(answer: &[u8]) -> Option<Refusal> {
-    let words = answer.strip_prefix(b"HTTP/1.1 ")?;
-    if words.starts_with(b"413") {
-        return Some(Refusal {
-            status: StatusCode::PAYLOAD_TOO_LARGE,
-            why: "a body has at most 4096 bytes: send a shorter one\n",
-        });
+    let line = answer
+        .strip_prefix(b"HTTP/1.1 ")?
+        .strip_suffix(b"\r\nconnection: close\r\ncontent-length: 0\r\n\r\n")?;
+    if line.contains(&b'\r') {
+        return None;
     }
-    if words.starts_with(b"431") {
-        return Some(Refusal {
-            status: StatusCode::REQUEST_HEADER_FIELDS_TOO_LARGE,
-            why: "the head of a request has at most 8192 bytes and 64 headers: send fewer\n",
-        });
-    }
-    None
+    let status = StatusCode::from_bytes(line.get(..3)?).ok()?;
+    let why = match status.as_u16() {
+        400 => {
+            "this is no valid request of HTTP/1.1: end each line of its head in CR LF, name one host, and send a body as long as it says\n"
+        }
+        413 => "a body has at most 4096 bytes: send a shorter one\n",
+        414 => "the first line of a request has at most 8192 bytes: send a shorter path\n",
+        431 => { "the head of a request has at most 8192 bytes and 64 headers: send fewer\n" }
+        501 => "a body in this coding can't be read: send it as it is, or in chunks\n",
+        _ => return None,
+    };
+    Some(Refusal { status, why })
 }

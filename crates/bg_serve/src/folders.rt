@@ -103,18 +103,25 @@ impl<'a> FolderStore<'a> {
     /// The reason why it can't be read.
     pub(crate) fn changed(&self, name: &str) -> io::Result<Option<Changed>> {
         let path = path_in(self.rt.alloc(), self.folder, name)?;
-        let file = path_in(self.rt.alloc(), path.as_str(), "match")?;
-        let file = match NamedMatch::read(self.rt, file.as_str()) {
-            Ok(Some(file)) => file,
-            Ok(None) => return Err(io::Error::from(ErrorKind::InvalidData)),
-            Err(error) if error.kind() == ErrorKind::NotFound => return Ok(None),
-            Err(error) => return Err(error),
-        };
-        Ok(Some(Changed {
-            names: file.names,
-            seats: read_seats(self.rt, path.as_str())?,
-            is_hidden: is_hidden(self.rt, path.as_str())?,
-        }))
+        match self.names_in(path.as_str())? {
+            Some(names) => Ok(Some(Changed {
+                names,
+                seats: read_seats(self.rt, path.as_str())?,
+                is_hidden: is_hidden(self.rt, path.as_str())?,
+            })),
+            None => Ok(None),
+        }
+    }
+
+    /// Returns the names of the players of the match in a folder; `None` if it has no match file.
+    fn names_in(&self, path: &str) -> io::Result<Option<Names>> {
+        let file = path_in(self.rt.alloc(), path, "match")?;
+        match NamedMatch::read(self.rt, file.as_str()) {
+            Ok(Some(file)) => Ok(Some(file.names)),
+            Ok(None) => Err(io::Error::from(ErrorKind::InvalidData)),
+            Err(error) if error.kind() == ErrorKind::NotFound => Ok(None),
+            Err(error) => Err(error),
+        }
     }
 
     /// Returns the names of the matches that the operator has changed, and notes that they were
@@ -151,8 +158,10 @@ impl<'a> FolderStore<'a> {
     ) -> io::Result<Found<ServedKeeper<'a>>> {
         let key = read_secret(self.rt, path)?;
         let digest = read_digest(self.rt, path)?;
-        if digest.is_some_and(|digest| digest != digest_of(&key)) {
-            return Err(io::Error::from(ErrorKind::InvalidData));
+        if let Some(digest) = digest {
+            if digest != digest_of(&key) {
+                return Err(io::Error::from(ErrorKind::InvalidData));
+            }
         }
         let is_hidden = is_hidden(self.rt, path)?;
         let quiet_minutes = quiet_minutes(self.rt, path)?;

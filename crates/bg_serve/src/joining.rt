@@ -8,7 +8,7 @@ use crate::seat_files::random_digits;
 use crate::settling::{CLUSTER, read_mark, write_mark};
 use bg_etcd::{Changes, File, MOST_TEXT, taken_in, transaction_text};
 use bg_stores::{Copies, Members, Trouble, TurnSaves, hosts_in};
-use std::alloc::AllocError;
+use std::alloc::{AllocError, Global};
 use std::io;
 
 /// The folder and the file in which a store has its ID. No match has a name with a dot.
@@ -81,23 +81,39 @@ pub(crate) fn join<'a>(
 impl<'a> Cluster<'a> {
     /// Checks that the folder is a copy of the store, or makes it one.
     fn check_owner(&mut self, words: &str) -> Result<(), Unjoined> {
-        let Copies { rt, folder } = self.copies;
         let owner = owner_in(self.page("", 0)?.files);
-        let Some(mark) = read_mark(rt, folder)? else {
-            return match owner {
-                None => self.fill(words),
-                Some(owner) if self.copies.names()?.is_empty() => {
-                    Ok(write_mark(rt, folder, words, owner.as_str())?)
-                }
-                Some(_) => Err(Unjoined::OwnMatches),
-            };
-        };
+        match read_mark(self.rt, self.copies.folder)? {
+            Some(mark) => self.check_mark(words, owner.as_deref(), mark.owner.as_str()),
+            None => self.make_copy(words, owner.as_deref()),
+        }
+    }
+
+    /// Checks that the mark of the folder names the owner of the store. If the store was being
+    /// filled from the folder, that is done again.
+    fn check_mark(
+        &mut self,
+        words: &str,
+        owner: Option<&str>,
+        marked: &str,
+    ) -> Result<(), Unjoined> {
         match owner {
-            _ if mark.owner.as_str() == FILLING => self.fill(words),
-            Some(owner) if owner.as_str() == mark.owner.as_str() => Ok(()),
+            _ if marked == FILLING => self.fill(words),
+            Some(owner) if owner == marked => Ok(()),
             Some(_) => Err(Unjoined::OtherStore),
             None => Err(Unjoined::Emptied),
         }
+    }
+
+    /// Makes a folder without a mark a copy of the store. A store without an owner is filled from
+    /// the folder.
+    fn make_copy(&mut self, words: &str, owner: Option<&str>) -> Result<(), Unjoined> {
+        let Some(owner) = owner else {
+            return self.fill(words);
+        };
+        if !self.copies.names()?.is_empty() {
+            return Err(Unjoined::OwnMatches);
+        }
+        Ok(write_mark(self.rt, self.copies.folder, words, owner)?)
     }
 
     /// Fills the store with the matches of the folder. If the process is killed meanwhile, nothing
@@ -111,57 +127,71 @@ impl<'a> Cluster<'a> {
         }
         write_mark(rt, folder, words, FILLING)?;
         let _ = self.commit_whole()?;
-        let owner = self.put_owner(random_digits(rt, 16)?)?;
-        Ok(write_mark(rt, folder, words, owner.as_str())?)
+        let owner = random_digits(rt, 16)?;
+        match self.put_owner(owner.as_str())? {
+            Some(other) => Ok(write_mark(rt, folder, words, other.as_str())?),
+            None => Ok(write_mark(rt, folder, words, owner.as_str())?),
+        }
     }
 
     /// Adds all files of a match to the pending changes. Returns false, and adds none, if one of
     /// them has more bytes than the store takes.
     fn add_all(&mut self, name: &str) -> Result<bool, Trouble> {
-        let mut changes = Changes::new(self.rt.alloc(), name, 0)?;
-        for file in self.copies.all_files(name)? {
-            if file.text.len() > MOST_TEXT {
-                return Ok(false);
-            }
-            changes.put(file)?;
+        let files = self.copies.all_files(name)?;
+        if files.iter().any(|file| file.text.len() > MOST_TEXT) {
+            return Ok(false);
         }
-        self.add(changes)?;
+        let folder = String::from_str(self.rt.alloc(), name)?;
+        self.add(Changes {
+            folder,
+            known: 0,
+            files,
+        })?;
         Ok(true)
     }
 
-    /// Gives the store an ID, unless another server has done so; returns the ID that it has then.
-    fn put_owner(&mut self, owner: String) -> Result<String, Trouble> {
+    /// Gives the store an ID, unless another server has done so. Returns the one that it has then,
+    /// if that is another.
+    fn put_owner(&mut self, owner: &str) -> Result<Option<String>, Trouble> {
         let alloc = self.rt.alloc();
-        let mut changes = Changes::new(alloc, OWNER, 0)?;
-        changes.put(File {
-            name: String::from_str(alloc, OWNER_FILE)?,
-            text: owner.as_bytes().to_vec(alloc)?,
-            revision: 0,
-        })?;
-        let text = transaction_text(alloc, &[changes])?;
+        let text = owner_text(alloc, owner)?;
         let (status, body) = self.ask("/v3/kv/txn", text.as_str())?;
-        let taken = taken_in(alloc, status, &body)?;
-        Ok(owner_in(taken.files).unwrap_or(owner))
+        Ok(owner_in(taken_in(alloc, status, &body)?.files))
     }
 
-    /// Removes the matches of the folder that the store doesn't have: they were deleted. A match
-    /// that the operator has restored since is put into the store instead, unless it is too long.
+    /// Removes the matches of the folder that the store doesn't have: they were deleted.
     fn remove_others(&mut self) -> Result<(), Trouble> {
-        for name in self.copies.names()? {
-            let name = name.as_str();
-            if self.known.of(name) > 0 {
-                continue;
+        let names = self.copies.names()?;
+        for name in names.iter() {
+            if self.known.of(name.as_str()) == 0 {
+                self.remove_other(name.as_str())?;
             }
-            if self.copies.is_changed(name)? {
-                if self.add_all(name)? {
-                    continue;
-                }
-                tell_long(self.rt, name, true);
-            }
-            self.copies.remove(name)?;
         }
         Ok(())
     }
+
+    /// Removes a match that the store doesn't have. If the operator has restored it since, it is put
+    /// into the store instead, unless it is too long.
+    fn remove_other(&mut self, name: &str) -> Result<(), Trouble> {
+        if self.copies.is_changed(name)? {
+            if self.add_all(name)? {
+                return Ok(());
+            }
+            tell_long(self.rt, name, true);
+        }
+        Ok(self.copies.remove(name)?)
+    }
+}
+
+/// Returns the transaction that gives a store an ID if it has none.
+fn owner_text(alloc: Global, owner: &str) -> Result<String, AllocError> {
+    let mut changes = Changes::new(alloc, OWNER, 0)?;
+    changes.put(File {
+        name: String::from_str(alloc, OWNER_FILE)?,
+        text: owner.as_bytes().to_vec(alloc)?,
+        revision: 0,
+    })?;
+    transaction_text(alloc, &[changes])
 }
 
 /// Returns the ID of the store, if it is among these files.

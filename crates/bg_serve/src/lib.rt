@@ -1,12 +1,10 @@
 //! A server of matches for browsers: one thread, sockets on the loopback address, and a folder for
-//! each match. The crate `bg_site` decides what requests and messages mean.
+//! each match. The crate `bg_site` decides what requests and messages mean. The program calls the
+//! commands that serve matches, and that manage those of a server:
 //!
 //! ```
-//! let failures = Failures::new();
-//! let server = Server::begin(&rt, ".", 0, &failures)?;
-//! assert!(rt; server.matches() == 0 && server.left_out().is_empty());
-//! let address = server.address()?;
-//! assert!(rt; address.port() > 0);
+//! Request::Serve(options) => serve::run(rt, options),
+//! Request::Manage(options) => manage::run(rt, options),
 //! ```
 #![tactic(auto)]
 
@@ -29,6 +27,7 @@ mod making;
 pub mod manage;
 mod news;
 mod notes;
+mod pauses;
 mod placing;
 mod putting;
 mod quotas;
@@ -47,10 +46,7 @@ mod turns;
 mod updates;
 mod visitors;
 
-pub use folders::FolderStore;
 pub use limits::{
     HEAD_SECONDS, HELLO_SECONDS, MOST_BODY, MOST_CLIENTS, MOST_HEAD, MOST_MADE, PING_SECONDS,
     SILENT_SECONDS, STALL_SECONDS,
 };
-pub use served_keepers::ServedKeeper;
-pub use servers::Server;

@@ -10,9 +10,9 @@ use bg_match::Terms;
 use bg_processes::{MatchFile, NamedMatch, Names, Printable, make_secret, read_secret};
 use bg_site::{Found, Made, Seats};
 use std::fs::DirBuilder;
-use std::io;
 use std::os::unix::fs::DirBuilderExt;
 use std::random::RandomSource;
+use std::{fs, io};
 
 /// The port in match files, which must name one. The server's matches have no sockets of their own.
 const PORT: u16 = 1024;
@@ -58,35 +58,42 @@ impl<'a> FolderStore<'a> {
         terms: Terms,
         names: Names,
     ) -> io::Result<Found<ServedKeeper<'a>>> {
+        let id = self.random_id()?;
+        let table = MatchFile {
+            id,
+            terms,
+            port: PORT,
+        };
+        let file = NamedMatch { table, names };
         let name = random_digits(self.rt, 6)?;
         let path = path_in(self.rt.alloc(), self.folder, name.as_str())?;
-        let seats = self.make_folder(path.as_str(), x, o)?;
-        let file = NamedMatch {
-            table: MatchFile {
-                id: self.random_id()?,
-                terms,
-                port: PORT,
-            },
-            names,
-        };
-        self.write_match(path.as_str(), &file)?;
+        let seats = self.make_folder(path.as_str(), x, o, &file)?;
         self.note_changed(name.as_str())?;
         self.found(name.as_str(), path.as_str(), file, Some(seats))
     }
 
-    /// Makes the folder of a match, with the secret of its dice, the SHA-256 of that secret, and
-    /// the digests of its seats.
-    fn make_folder(&self, path: &str, x: &str, o: &str) -> io::Result<Seats> {
+    /// Makes the folder of a match, with its files. If one of them can't be written, the folder is
+    /// removed: nobody can play the match, and its seats would make it one of those that a store is
+    /// filled with.
+    fn make_folder(&self, path: &str, x: &str, o: &str, file: &NamedMatch) -> io::Result<Seats> {
         DirBuilder::new().mode(OWNER_ALONE).create(self.rt, path)?;
-        make_secret(self.rt, path)?;
-        write_digest(self.rt, path, &digest_of(&read_secret(self.rt, path)?))?;
-        write_seats(self.rt, path, x, o)
+        let made = self.fill_folder(path, x, o, file);
+        if made.is_err() {
+            let _ = fs::remove_dir_all(self.rt, path);
+        }
+        made
     }
 
-    /// Writes the match file. This comes last, because a folder without one is not a match.
-    fn write_match(&self, path: &str, file: &NamedMatch) -> io::Result<()> {
+    /// Writes the secret of the dice of a match into its new folder, the SHA-256 of that secret, the
+    /// digests of the seats, and the match file. That comes last, because a folder without one is
+    /// not a match.
+    fn fill_folder(&self, path: &str, x: &str, o: &str, file: &NamedMatch) -> io::Result<Seats> {
+        make_secret(self.rt, path)?;
+        write_digest(self.rt, path, &digest_of(&read_secret(self.rt, path)?))?;
+        let seats = write_seats(self.rt, path, x, o)?;
         file.write(self.rt, path)?;
-        sync(self.rt, self.folder)
+        sync(self.rt, self.folder)?;
+        Ok(seats)
     }
 
     /// Returns a random id for a match.

@@ -118,7 +118,9 @@ impl<'a> Cluster<'a> {
         let mut all: Vec<Seen> = Vec::new(self.rt.alloc());
         for event in events {
             self.watched = self.watched.max(event.revision);
-            self.take_event(event, &mut all)?;
+            if self.note_event(&event, &mut all)? {
+                self.take_event(event)?;
+            }
         }
         let mut names = Vec::new(self.rt.alloc());
         for seen in all {
@@ -133,31 +135,38 @@ impl<'a> Cluster<'a> {
         Ok(names)
     }
 
-    /// Applies a change unless it is known. It may be this server's own, such as the removal of a
-    /// match that was restored since.
-    fn take_event(&mut self, event: Event, all: &mut Vec<Seen>) -> Result<(), Trouble> {
+    /// Notes what an event says about a match. Returns false if the event is known already. It may
+    /// be this server's own, such as the removal of a match that was restored since.
+    fn note_event(&self, event: &Event, all: &mut Vec<Seen>) -> Result<bool, Trouble> {
+        let Some((folder, file)) = parts_of(event.name.as_str()) else {
+            return Ok(false);
+        };
+        let is_new = event.revision > self.known.of(folder).max(self.removed.of(folder));
+        if is_new {
+            let is_heart = file == MATCH;
+            let is_gone = is_heart && event.text.is_none();
+            self.note_seen(folder, event.revision, is_heart, is_gone, all)?;
+        }
+        Ok(is_new)
+    }
+
+    /// Applies a change.
+    fn take_event(&mut self, event: Event) -> Result<(), Trouble> {
         let Event {
             name,
             text,
             revision,
         } = event;
-        let Some((folder, file)) = parts_of(name.as_str()) else {
-            return Ok(());
-        };
-        if revision <= self.known.of(folder).max(self.removed.of(folder)) {
-            return Ok(());
-        }
-        let is_heart = file == MATCH;
-        let is_gone = is_heart && text.is_none();
-        self.note_seen(folder, revision, is_heart, is_gone, all)?;
         match text {
             Some(text) => self.place(File {
                 name,
                 text,
                 revision,
             }),
-            None if is_gone => self.remove(folder),
-            None => Ok(()),
+            None => match parts_of(name.as_str()) {
+                Some((folder, file)) if file == MATCH => self.remove(folder),
+                _ => Ok(()),
+            },
         }
     }
 

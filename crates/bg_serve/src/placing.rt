@@ -33,15 +33,19 @@ impl<'a> Cluster<'a> {
     fn remove_lacking(&self, folder: &str, files: &[File]) -> Result<(), Trouble> {
         for slot in SLOTS.iter() {
             let name = path_in(self.rt.alloc(), folder, slot)?;
-            if files.iter().any(|file| file.name.as_str() == name.as_str()) {
-                continue;
+            if !files.iter().any(|file| file.name.as_str() == name.as_str()) {
+                self.remove_slot(name.as_str())?;
             }
-            if let Ok(mut behind) = self.saves.behind.try_borrow_mut() {
-                behind.forget(name.as_str());
-            }
-            self.copies.remove_slot(name.as_str())?;
         }
         Ok(())
+    }
+
+    /// Removes the file of a slot, and forgets what is to be written into it.
+    fn remove_slot(&self, name: &str) -> Result<(), Trouble> {
+        if let Ok(mut behind) = self.saves.behind.try_borrow_mut() {
+            behind.forget(name);
+        }
+        Ok(self.copies.remove_slot(name)?)
     }
 
     /// Writes a file of the store into the folder; a file that a party writes follows later. If the

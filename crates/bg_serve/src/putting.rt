@@ -4,6 +4,7 @@ use crate::clusters::Cluster;
 use bg_etcd::{Changes, File, Taken, removal_text, taken_in, transaction_text};
 use bg_stores::{Trouble, is_slot_name};
 use std::alloc::{AllocError, Global};
+use std::mem;
 
 impl<'a> Cluster<'a> {
     /// Puts all pending removals and changes into the store.
@@ -41,15 +42,15 @@ impl<'a> Cluster<'a> {
         let count = self.pending.batch();
         let some = self.pending.changes.get(..count).unwrap_or_default();
         let text = transaction_text(self.rt.alloc(), some)?;
-        let taken = self.put(text.as_str())?;
+        let mut taken = self.put(text.as_str())?;
         if taken.is_taken {
-            return self.note_taken(count, taken.revision);
-        }
-        if count > 1 {
+            self.note_taken(count, taken.revision)
+        } else if count > 1 {
             self.pending.part(count);
-            return Ok(());
+            Ok(())
+        } else {
+            self.note_refused(&mut taken)
         }
-        self.note_refused(taken)
     }
 
     /// Sends a transaction, and waits a while for its result. Refuses that of an older store.
@@ -103,30 +104,32 @@ impl<'a> Cluster<'a> {
 
     /// Handles the refusal of the first match's changes. Another server changed the match first,
     /// unless the store has these very changes, as it does if an answer was lost.
-    fn note_refused(&mut self, taken: Taken) -> Result<(), Trouble> {
+    fn note_refused(&mut self, taken: &mut Taken) -> Result<(), Trouble> {
         let Some(changes) = self.pending.changes.first() else {
             return Ok(());
         };
         if changes.are_all_in(&taken.files) {
             return self.note_taken(1, taken.revision);
         }
-        let alloc = self.rt.alloc();
-        let Taken {
-            mut files,
-            revision,
-            ..
-        } = taken;
-        let name = String::from_str(alloc, changes.folder.as_str())?;
-        let again = changes_again(alloc, changes, revision)?;
-        let is_there = !files.is_empty();
-        files.retain(|file| !again.has(file.name.as_str()));
-        self.take_in(name.as_str(), files, revision)?;
-        self.lost.push(name)?;
-        let _ = self.pending.take_first();
+        let is_there = !taken.files.is_empty();
+        let again = changes_again(self.rt.alloc(), changes, taken.revision)?;
+        self.lose(&again, taken)?;
         // A change by the operator doesn't bring back a deleted match.
         if is_there && !again.files.is_empty() {
             self.add(again)?;
         }
+        Ok(())
+    }
+
+    /// Takes in the first match, which another server changed first, but for what is put `again`.
+    fn lose(&mut self, again: &Changes, taken: &mut Taken) -> Result<(), Trouble> {
+        let alloc = self.rt.alloc();
+        let folder = again.folder.as_str();
+        let mut files = mem::replace(&mut taken.files, Vec::new(alloc));
+        files.retain(|file| !again.has(file.name.as_str()));
+        self.take_in(folder, files, taken.revision)?;
+        self.lost.push(String::from_str(alloc, folder)?)?;
+        let _ = self.pending.take_first();
         Ok(())
     }
 }

@@ -1,15 +1,15 @@
 //! The file of a match that says who may play it: the SHA-256 of each seat's secret.
 
-use crate::durable::{OWNER_ALONE, replace_file};
+use crate::durable::{OWNER_ALONE, read_text, replace_file};
 use bg_board::Player;
 use bg_console::path_in;
 use bg_site::{Digest, Seats, digest_of};
 use std::alloc::{AllocError, Global};
 use std::fs::OpenOptions;
+use std::io;
 use std::io::{ErrorKind, Write};
 use std::os::unix::fs::OpenOptionsExt;
 use std::random::RandomSource;
-use std::{fs, io};
 
 /// The name of the file.
 const NAME: &str = "seats";
@@ -28,10 +28,8 @@ pub(crate) fn random_digits(rt: &HostRuntime, count: usize) -> io::Result<String
 /// # Errors
 /// The reason why the file can't be read; `InvalidData` if it is malformed.
 pub(crate) fn read_seats(rt: &HostRuntime, folder: &str) -> io::Result<Option<Seats>> {
-    let path = path_in(rt.alloc(), folder, NAME)?;
-    let text = match fs::read_to_string(rt, path.as_str()) {
-        Err(error) if error.kind() == ErrorKind::NotFound => return Ok(None),
-        read => read?,
+    let Some(text) = read_text(rt, folder, NAME)? else {
+        return Ok(None);
     };
     match seats_in(text.as_str()) {
         Some(seats) => Ok(Some(seats)),

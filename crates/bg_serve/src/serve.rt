@@ -4,6 +4,7 @@ use crate::crowds::Crowd;
 use crate::database_words::{is_anothers, not_usable, settle_first, tell_outage};
 use crate::databases::Database;
 use crate::folders::FolderStore;
+use crate::pauses::pause;
 use crate::servers::Server;
 use crate::settling::{CLUSTER, Unusable};
 use crate::sharing::run_shared;
@@ -43,22 +44,9 @@ fn run_owned(
     if words.starts_with(CLUSTER) {
         return run_shared(rt, &options, words, failures);
     }
-    match begun(rt, &options, failures) {
-        Ok((mut server, mut database)) => {
-            set_up(&mut server, &options);
-            tell_begin(rt, &server);
-            go_on(rt, &mut server, &mut database, options)
-        }
+    match serve_owned(rt, &options, words, failures) {
+        Ok(ending) => ending,
         Err(why) => Err(not_begun(rt, options.port, words, why)),
-    }
-}
-
-/// Sets the time without actions after which a match is listed as idle, and keeps a log of requests
-/// if the options say so.
-pub(crate) fn set_up(server: &mut Server<'_>, options: &ServeOptions<'_>) {
-    server.site.set_idle(u64::from(options.idle_hours) * 60);
-    if options.tells_requests {
-        server.site.keep_log();
     }
 }
 
@@ -84,78 +72,77 @@ pub(crate) fn not_begun(rt: &HostRuntime, port: u16, database: &str, why: Unusab
     }
 }
 
-/// Binds the port, opens the database if one is named, and opens the matches of the folder.
-fn begun<'a>(
+/// Binds the port, opens the database if one is named, opens the matches of the folder, and serves
+/// them until the process is ended. `words` is the path of the database.
+///
+/// # Errors
+/// The reason why the matches can't be served.
+fn serve_owned<'a>(
     rt: &'a HostRuntime,
     options: &ServeOptions<'a>,
+    words: &str,
     failures: &'a Failures,
-) -> Result<(Box<Server<'a>>, Option<Box<Database<'a>>>), Unusable> {
-    let mut store = FolderStore::new(rt, options.folder, failures)?;
+) -> Result<Result<Ending, Ending>, Unusable> {
     let sockets = Sockets::bind(rt, options.port)?;
-    let database = match options.database {
+    let mut store = FolderStore::new(rt, options.folder, failures)?;
+    let mut database = match options.database {
         Some(path) => Some(Database::begin(rt, options.folder, path, &mut store)?),
         None => None,
     };
-    Ok((Server::begin_over(rt, sockets, store)?, database))
+    let mut server = Server::begin_over(
+        rt,
+        sockets,
+        store,
+        options.idle_hours,
+        options.tells_requests,
+    )?;
+    tell_begin(rt, &server);
+    Ok(go_on(rt, &mut server, &mut database, words))
 }
 
-/// Runs the turns of a server. The saves of a turn are committed before clients are told of them.
-/// If the operator deletes or restores a match, that is committed before files that are older than
-/// the database are written.
+/// Runs the turns of a server. If there is a database at `path`, the saves of a turn are committed
+/// before clients are told of them. If the operator deletes or restores a match, that is committed
+/// before files that are older than the database are written.
 fn go_on(
     rt: &HostRuntime,
     server: &mut Server<'_>,
     database: &mut Option<Box<Database<'_>>>,
-    options: ServeOptions<'_>,
+    path: &str,
 ) -> Result<Ending, Ending> {
     for _ in 0..u64::MAX {
-        let made = match database {
-            Some(database) => {
-                take_turn(rt, server, database, options.database.unwrap_or_default())?
-            }
-            None => take_turn_alone(rt, server)?,
-        };
+        let now = waited(rt, server.hear())?;
+        commit(rt, &mut server.crowd, database, path)?;
+        let made = waited(rt, server.tell(now))?;
+        commit(rt, &mut server.crowd, database, path)?;
+        if let Some(database) = database {
+            database.follow(now);
+        }
         tell_turn(rt, server, made);
     }
     Ok(Ending::Served)
 }
 
-/// Runs a turn of a server with a database. Returns how many matches were made.
-fn take_turn(
-    rt: &HostRuntime,
-    server: &mut Server<'_>,
-    database: &mut Database<'_>,
-    path: &str,
-) -> Result<u64, Ending> {
-    let now = waited(rt, server.hear())?;
-    commit(rt, &mut server.crowd, database, path)?;
-    let made = waited(rt, server.tell(now))?;
-    commit(rt, &mut server.crowd, database, path)?;
-    database.follow(now);
-    Ok(made)
-}
-
-/// Runs a turn of a server without a database. Returns how many matches were made.
-fn take_turn_alone(rt: &HostRuntime, server: &mut Server<'_>) -> Result<u64, Ending> {
-    let now = waited(rt, server.hear())?;
-    waited(rt, server.tell(now))
-}
-
-/// Ends a turn whose saves are all durable: logs its results, such as the number of matches made.
+/// Ends a turn whose saves are all durable: logs its results, such as the number of matches made,
+/// and the requests that were answered, if a log of them is kept.
 pub(crate) fn tell_turn(rt: &HostRuntime, server: &mut Server<'_>, made: u64) {
     server.forget_changes();
     tell_counts(rt, made, server.ended(), server.changed());
-    tell_requests(rt, server);
+    if let Some(log) = &server.turns.log {
+        say_lines(rt, log.as_str());
+    }
 }
 
-/// Commits the saves of a turn, and retries until that succeeds. Logs failures, and tells clients
-/// that connect meanwhile.
+/// Commits the saves of a turn, if there is a database, and retries until that succeeds. Logs
+/// failures, and tells clients that connect meanwhile.
 fn commit(
     rt: &HostRuntime,
     crowd: &mut Crowd<'_>,
-    database: &mut Database<'_>,
+    database: &mut Option<Box<Database<'_>>>,
     path: &str,
 ) -> Result<(), Ending> {
+    let Some(database) = database else {
+        return Ok(());
+    };
     let mut failed = None;
     for _ in 0..u64::MAX {
         let before = failed;
@@ -168,7 +155,7 @@ fn commit(
             return Ok(());
         }
         crowd.turn_away();
-        waited(rt, database.pause())?;
+        waited(rt, pause(rt))?;
     }
     Ok(())
 }
@@ -185,12 +172,12 @@ pub(crate) fn waited<T>(rt: &HostRuntime, attempt: io::Result<T>) -> Result<T, E
 pub(crate) fn tell_begin(rt: &HostRuntime, server: &Server<'_>) {
     tell_left_out(rt, server.left_out());
     let count = server.matches();
-    match server.address() {
-        Ok(address) => say(
+    match server.address().ok() {
+        Some(address) => say(
             rt,
             format_args!("serving at http://{address}, matches: {count}"),
         ),
-        Err(_) => say(rt, format_args!("serving, matches: {count}")),
+        None => say(rt, format_args!("serving, matches: {count}")),
     }
 }
 
@@ -217,13 +204,6 @@ fn tell_counts(rt: &HostRuntime, made: u64, ended: u64, changed: u64) {
     }
     if changed > 0 {
         say(rt, format_args!("changes by `manage`: {changed}"));
-    }
-}
-
-/// Logs the requests that were answered, if a log of them is kept.
-fn tell_requests(rt: &HostRuntime, server: &mut Server<'_>) {
-    if let Some(log) = server.take_log() {
-        say_lines(rt, log.as_str());
     }
 }
 

@@ -5,9 +5,11 @@ use crate::folders::FolderStore;
 use crate::served_keepers::ServedKeeper;
 use crate::sockets::Sockets;
 use crate::turns::Turns;
-use bg_processes::{Failures, FolderLock};
+use bg_processes::FolderLock;
 use bg_requests::is_name;
-use bg_site::{Found, Site};
+use bg_site::{Site, Store};
+use bg_world::Keeper;
+use std::alloc::Global;
 use std::io;
 use std::net::SocketAddr;
 
@@ -22,7 +24,7 @@ pub struct Server<'a> {
     /// The locks of folders over which other processes might play.
     locks: Vec<FolderLock>,
     pub(crate) crowd: Crowd<'a>,
-    turns: Turns<'a>,
+    pub(crate) turns: Turns<'a>,
     /// The number of the operator's changes that were taken in, but not reported yet.
     pub(crate) changed: u64,
     /// The matches with changes that were taken in, but may not be saved yet.
@@ -32,22 +34,9 @@ pub struct Server<'a> {
 }
 
 impl<'a> Server<'a> {
-    /// Binds the port on the loopback address, and opens the matches of the folder.
-    ///
-    /// # Errors
-    /// The reason why the port can't be bound, or the folder can't be read.
-    pub fn begin(
-        rt: &'a HostRuntime,
-        folder: &'a str,
-        port: u16,
-        failures: &'a Failures,
-    ) -> io::Result<Box<Server<'a>>> {
-        let store = FolderStore::new(rt, folder, failures)?;
-        let sockets = Sockets::bind(rt, port)?;
-        Server::begin_over(rt, sockets, store)
-    }
-
-    /// Opens the matches of a store, and serves them at these sockets.
+    /// Opens the matches of a store, and serves them at these sockets. A match without an action
+    /// for `idle_hours` is listed as idle, unless that is 0. Keeps a log of requests if `keeps_log`
+    /// says so.
     ///
     /// # Errors
     /// The reason why the folder can't be read.
@@ -55,22 +44,12 @@ impl<'a> Server<'a> {
         rt: &'a HostRuntime,
         sockets: Sockets,
         store: FolderStore<'a>,
+        idle_hours: u32,
+        keeps_log: bool,
     ) -> io::Result<Box<Server<'a>>> {
         let turns = Turns::begin(rt)?;
-        let mut server = Box::new(rt.alloc(), Server::over(rt, sockets, store, turns))?;
-        server.open_all()?;
-        Ok(server)
-    }
-
-    /// Creates a server without matches or clients.
-    fn over(
-        rt: &'a HostRuntime,
-        sockets: Sockets,
-        store: FolderStore<'a>,
-        turns: Turns<'a>,
-    ) -> Server<'a> {
-        Server {
-            site: Site::new(rt.alloc(), store),
+        let server = Server {
+            site: site_over(rt.alloc(), store, idle_hours, keeps_log),
             left_out: Vec::new(rt.alloc()),
             locks: Vec::new(rt.alloc()),
             crowd: Crowd::none(rt, sockets),
@@ -78,7 +57,10 @@ impl<'a> Server<'a> {
             changed: 0,
             taken: Vec::new(rt.alloc()),
             ended: 0,
-        }
+        };
+        let mut server = Box::new(rt.alloc(), server)?;
+        server.open_all()?;
+        Ok(server)
     }
 
     /// Waits until there is something to do, does it, and answers the clients. Returns how many
@@ -105,8 +87,10 @@ impl<'a> Server<'a> {
         if is_second {
             self.take_changes();
         }
-        self.turns
-            .tell(&mut self.crowd, &mut self.site, now, is_second)
+        Ok(
+            self.turns
+                .tell(&mut self.crowd, &mut self.site, now, is_second)?,
+        )
     }
 
     /// Returns the store.
@@ -125,22 +109,14 @@ impl<'a> Server<'a> {
         Ok(())
     }
 
-    /// Opens the match of a folder, if it has one. Returns false if it can't be served.
+    /// Opens the match of a folder, if it has one, and keeps the lock of the folder. Returns false
+    /// if it can't be served, or there is no room for it.
     pub(crate) fn open(&mut self, name: &str) -> io::Result<bool> {
-        match self.store().find(name) {
-            Ok(Some((found, lock))) => self.open_found(found, lock),
-            Ok(None) => Ok(true),
-            Err(_) => Ok(false),
-        }
-    }
-
-    /// Opens a match that was found, and keeps the lock of its folder. Returns false if there is no
-    /// room for it.
-    fn open_found(
-        &mut self,
-        found: Box<Found<ServedKeeper<'a>>>,
-        lock: Option<FolderLock>,
-    ) -> io::Result<bool> {
+        let (found, lock) = match self.store().find(name) {
+            Ok(Some(found)) => found,
+            Ok(None) => return Ok(true),
+            Err(_) => return Ok(false),
+        };
         if !self.site.open(Box::into_inner(found)) {
             return Ok(false);
         }
@@ -150,18 +126,6 @@ impl<'a> Server<'a> {
         Ok(true)
     }
 
-    /// Closes the clients heard in this turn whose answers may depend on what one of these matches
-    /// hasn't saved.
-    pub(crate) fn drop_answers(&mut self, names: &[String]) {
-        self.crowd.drop_answers(&mut self.site, names);
-    }
-
-    /// Returns the log lines of the requests answered since the last call; `None` if no log is
-    /// kept.
-    pub(crate) fn take_log(&mut self) -> Option<String> {
-        self.site.take_log()
-    }
-
     /// Returns how many of the operator's changes were taken in since the last call.
     pub fn changed(&mut self) -> u64 {
         let changed = self.changed;
@@ -169,11 +133,10 @@ impl<'a> Server<'a> {
         changed
     }
 
-    /// Returns how many matches have ended since the last call.
+    /// Returns how many matches have ended since the last call, up to the end of the last turn.
     pub fn ended(&mut self) -> u64 {
-        let ended = self.site.ended();
-        let fresh = ended.saturating_sub(self.ended);
-        self.ended = ended;
+        let fresh = self.turns.ended.saturating_sub(self.ended);
+        self.ended = self.turns.ended;
         fresh
     }
 
@@ -195,4 +158,21 @@ impl<'a> Server<'a> {
     pub fn left_out(&self) -> &[String] {
         &self.left_out
     }
+}
+
+/// Returns the site of the matches of a store, without any of them so far. A match without an
+/// action for `idle_hours` is listed as idle, unless that is 0. Keeps a log of requests if
+/// `keeps_log` says so.
+fn site_over<K: Keeper + Drop, S: Store<K> + Drop>(
+    alloc: Global,
+    store: S,
+    idle_hours: u32,
+    keeps_log: bool,
+) -> Site<K, S> {
+    let mut site = Site::new(alloc, store);
+    site.set_idle(u64::from(idle_hours) * 60);
+    if keeps_log {
+        site.keep_log();
+    }
+    site
 }

@@ -3,7 +3,7 @@
 //! While a folder of matches has a database, a file in the folder names it: the mark. So nobody who
 //! serves or manages the folder overlooks the database.
 
-use crate::durable::{OWNER_ALONE, replace_file, sync, write_through};
+use crate::durable::{OWNER_ALONE, read_text, replace_file, sync, write_through};
 use crate::fence::{Fence, Unsaved};
 use crate::seat_files::random_digits;
 use bg_console::path_in;
@@ -80,16 +80,19 @@ pub(crate) struct Mark {
 /// # Errors
 /// The reason why it can't be read; `InvalidData` if it is malformed.
 pub(crate) fn read_mark(rt: &HostRuntime, folder: &str) -> io::Result<Option<Mark>> {
-    let path = path_in(rt.alloc(), folder, MARK)?;
-    let text = match fs::read_to_string(rt, path.as_str()) {
-        Err(error) if error.kind() == ErrorKind::NotFound => return Ok(None),
-        read => read?,
-    };
-    match text.as_str().split_once('\n') {
-        Some((owner, rest)) if rest.ends_with('\n') => Ok(Some(Mark {
-            owner: String::from_str(rt.alloc(), owner)?,
-            path: String::from_str(rt.alloc(), rest.trim_end_matches('\n'))?,
-        })),
+    match read_text(rt, folder, MARK)? {
+        Some(text) => Ok(Some(mark_in(rt.alloc(), text.as_str())?)),
+        None => Ok(None),
+    }
+}
+
+/// Parses the text of a mark: two lines, the owner and the path.
+fn mark_in(alloc: Global, text: &str) -> io::Result<Mark> {
+    match text.split_once('\n') {
+        Some((owner, rest)) if rest.ends_with('\n') => Ok(Mark {
+            owner: String::from_str(alloc, owner)?,
+            path: String::from_str(alloc, rest.trim_end_matches('\n'))?,
+        }),
         _ => Err(io::Error::from(ErrorKind::InvalidData)),
     }
 }
@@ -110,19 +113,33 @@ pub(crate) fn open_there(rt: &HostRuntime, path: &str) -> Result<Journal, Error>
 /// The reason why it can't be done. The folder then still has its database.
 pub(crate) fn settle(rt: &HostRuntime, folder: &str, mark: &Mark) -> Result<(), Unusable> {
     let mut journal = open_there(rt, mark.path.as_str())?;
+    settle_all(rt, folder, mark.owner.as_str(), &mut journal)?;
+    Ok(remove_mark(rt, folder)?)
+}
+
+/// Brings the files of a folder up to date from a database, if it has this owner, and empties it.
+fn settle_all(
+    rt: &HostRuntime,
+    folder: &str,
+    owner: &str,
+    journal: &mut Journal,
+) -> Result<(), Unusable> {
     let files = journal.files()?;
-    let is_its_owner = match journal.find(OWNER)?.as_deref() {
-        Some(owner) => owner == mark.owner.as_bytes(),
-        None => files.is_empty(),
-    };
-    if !is_its_owner {
+    if !has_owner(journal, owner, files.is_empty())? {
         return Err(Unusable::Database(NOT_THERE));
     }
     for file in files.iter() {
         settle_file(rt, folder, file)?;
     }
-    journal.clear()?;
-    Ok(remove_mark(rt, folder)?)
+    Ok(journal.clear()?)
+}
+
+/// Returns whether a database has this owner, or neither an owner nor files.
+fn has_owner(journal: &mut Journal, owner: &str, is_empty: bool) -> Result<bool, Error> {
+    match journal.find(OWNER)? {
+        Some(found) => Ok(found.as_slice() == owner.as_bytes()),
+        None => Ok(is_empty),
+    }
 }
 
 /// Brings a file up to date. Skips files in folders that no longer exist.
@@ -135,12 +152,17 @@ fn settle_file(rt: &HostRuntime, folder: &str, file: &FileText) -> io::Result<()
         return Ok(());
     }
     let path = path_in(rt.alloc(), folder, file.name.as_str())?;
-    if read_saved(rt, path.as_str())? != file.text {
-        write_through(rt, path.as_str(), &file.text)?;
-    } else {
-        sync(rt, path.as_str())?;
-    }
+    settle_text(rt, path.as_str(), &file.text)?;
     sync(rt, above.as_str())
+}
+
+/// Gives a file this text, and makes it durable.
+fn settle_text(rt: &HostRuntime, path: &str, text: &[u8]) -> io::Result<()> {
+    if read_saved(rt, path)?.as_slice() == text {
+        sync(rt, path)
+    } else {
+        write_through(rt, path, text)
+    }
 }
 
 /// Gives a folder a database, which is created if it is missing, and notes that in the folder.
@@ -149,16 +171,21 @@ fn settle_file(rt: &HostRuntime, folder: &str, file: &FileText) -> io::Result<()
 /// # Errors
 /// `Anothers` if it already has files; otherwise the reason why it can't be opened or written.
 pub(crate) fn begin(rt: &HostRuntime, folder: &str, path: &str) -> Result<Fence, Unusable> {
+    let fence = Fence::new(random_digits(rt, 16)?);
+    begin_with(rt, folder, path, &fence)?;
+    Ok(fence)
+}
+
+/// Gives a folder a database with this fence.
+fn begin_with(rt: &HostRuntime, folder: &str, path: &str, fence: &Fence) -> Result<(), Unusable> {
     let mut journal = Journal::open(rt, path)?;
     if !journal.files()?.is_empty() {
         return Err(Unusable::Anothers);
     }
     close_to_others(rt, path)?;
-    let fence = Fence::new(random_digits(rt, 16)?);
     let whole = fs::canonicalize(rt, path)?;
     write_mark(rt, folder, whole.as_str(), fence.owner())?;
-    journal.write(&first_changes(rt.alloc(), &fence)?)?;
-    Ok(fence)
+    Ok(journal.write(&first_changes(rt.alloc(), fence)?)?)
 }
 
 /// Returns the changes that give a database its owner, and say that it has no turn yet.

@@ -5,7 +5,8 @@ use crate::clusters::Cluster;
 use crate::crowds::Crowd;
 use crate::folders::FolderStore;
 use crate::joining::{Unjoined, join};
-use crate::serve::{not_begun, set_up, tell_begin, tell_turn, waited};
+use crate::pauses::pause;
+use crate::serve::{not_begun, tell_begin, tell_turn, waited};
 use crate::servers::Server;
 use crate::settling::Unusable;
 use crate::sockets::Sockets;
@@ -38,66 +39,62 @@ pub(crate) fn run_shared<'a>(
             return Err(not_begun(rt, options.port, words, Unusable::File(error)));
         }
     };
-    match joined(rt, options.folder, words, failures, sockets) {
-        Ok((cluster, mut server)) => {
-            let mut shared = Shared {
-                rt,
-                cluster,
-                words,
-                is_away: false,
-                is_untold: false,
-            };
-            set_up(&mut server, options);
-            begin(&mut shared, &mut server)?;
-            go_on(&mut shared, &mut server)
-        }
+    match share(rt, options, words, failures, sockets) {
+        Ok(ending) => ending,
         Err(why) => Err(not_joined(rt, options.folder, words, &why)),
     }
 }
 
-/// Joins the servers that share the matches of a store. Returns the store, and the server at these
-/// sockets.
-fn joined<'a>(
+/// Joins the servers that share the matches of a store, and serves the matches at these sockets
+/// until the process is ended.
+///
+/// # Errors
+/// The reason why the server can't join the others.
+fn share<'a>(
     rt: &'a HostRuntime,
-    folder: &'a str,
-    words: &str,
+    options: &ServeOptions<'a>,
+    words: &'a str,
     failures: &'a Failures,
     sockets: Sockets,
-) -> Result<(Box<Cluster<'a>>, Box<Server<'a>>), Unjoined> {
-    let mut store = FolderStore::new(rt, folder, failures)?;
-    let cluster = join(rt, folder, words, &mut store)?;
-    Ok((cluster, Server::begin_over(rt, sockets, store)?))
+) -> Result<Result<Ending, Ending>, Unjoined> {
+    let mut store = FolderStore::new(rt, options.folder, failures)?;
+    let cluster = join(rt, options.folder, words, &mut store)?;
+    let mut server = Server::begin_over(
+        rt,
+        sockets,
+        store,
+        options.idle_hours,
+        options.tells_requests,
+    )?;
+    let mut shared = Shared {
+        rt,
+        cluster,
+        words,
+        is_away: false,
+        is_untold: false,
+    };
+    Ok(go_on(&mut shared, &mut server))
 }
 
-/// Commits what the operator changed while no server was running, before any client is served.
-fn begin(shared: &mut Shared<'_>, server: &mut Server<'_>) -> Result<(), Ending> {
+/// Commits what the operator changed while no server was running, before any client is served, and
+/// runs the turns of a server. The saves of a turn are in the store before clients are told of
+/// them. What changes while clients are told is put there too.
+fn go_on(shared: &mut Shared<'_>, server: &mut Server<'_>) -> Result<Ending, Ending> {
     server.take_changes();
     shared.commit(server)?;
     server.forget_changes();
     tell_begin(shared.rt, server);
-    Ok(())
-}
-
-/// Runs the turns of a server.
-fn go_on(shared: &mut Shared<'_>, server: &mut Server<'_>) -> Result<Ending, Ending> {
     for _ in 0..u64::MAX {
-        let made = take_turn(shared, server)?;
+        let now = waited(shared.rt, server.hear())?;
+        shared.commit(server)?;
+        shared.take_news(server, now)?;
+        let made = waited(shared.rt, server.tell(now))?;
+        shared.commit(server)?;
+        shared.cluster.follow(now);
         tell_turn(shared.rt, server, made);
         shared.tell_long();
     }
     Ok(Ending::Served)
-}
-
-/// Runs a turn of a server. Its saves are in the store before clients are told of them. What
-/// changes while clients are told is put there too. Returns how many matches were made.
-fn take_turn(shared: &mut Shared<'_>, server: &mut Server<'_>) -> Result<u64, Ending> {
-    let now = waited(shared.rt, server.hear())?;
-    shared.commit(server)?;
-    shared.take_news(server, now)?;
-    let made = waited(shared.rt, server.tell(now))?;
-    shared.commit(server)?;
-    shared.cluster.follow(now);
-    Ok(made)
 }
 
 impl<'a> Shared<'a> {
@@ -110,7 +107,7 @@ impl<'a> Shared<'a> {
             if lost.is_empty() {
                 break;
             }
-            server.drop_answers(&lost);
+            server.crowd.drop_answers(&mut server.site, &lost);
             server.renew_all(&lost);
             tell_lost(self.rt, lost.len());
         }
@@ -143,7 +140,7 @@ impl<'a> Shared<'a> {
             Err(Trouble::NotYet) => {}
             Err(trouble) => {
                 self.tell_trouble(&trouble);
-                waited(self.rt, self.cluster.pause())?;
+                waited(self.rt, pause(self.rt))?;
             }
         }
         Ok(None)

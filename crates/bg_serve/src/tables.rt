@@ -114,15 +114,19 @@ impl<'a> Tables<'a> {
     /// Copies all matches durably into a new folder, and returns how many there are.
     pub(crate) fn back_up(&self, out: &str) -> io::Result<u64> {
         DirBuilder::new().mode(OWNER_ALONE).create(self.rt, out)?;
-        let mut count = 0u64;
-        for name in self.names_in(self.folder)? {
-            let from = path_in(self.rt.alloc(), self.folder, name.as_str())?;
+        let names = self.names_in(self.folder)?;
+        for name in names.iter() {
             let to = path_in(self.rt.alloc(), out, name.as_str())?;
-            copy_match(self.rt, from.as_str(), to.as_str())?;
-            count = count.saturating_add(1);
+            self.copy(self.folder, name.as_str(), to.as_str())?;
         }
         sync(self.rt, out)?;
-        Ok(count)
+        Ok(names.len() as u64)
+    }
+
+    /// Copies the match of this name in a folder durably into a new folder `to`.
+    fn copy(&self, folder: &str, name: &str, to: &str) -> io::Result<()> {
+        let from = path_in(self.rt.alloc(), folder, name)?;
+        copy_match(self.rt, from.as_str(), to)
     }
 
     /// Returns whether a folder has a match of this name.
@@ -135,20 +139,25 @@ impl<'a> Tables<'a> {
     /// still exists.
     pub(crate) fn put_back(&self, from: &str, name: &str) -> io::Result<bool> {
         let to = path_in(self.rt.alloc(), self.folder, name)?;
-        if fs::symlink_metadata(self.rt, to.as_str()).is_ok() {
-            return Ok(false);
+        let is_gone = fs::symlink_metadata(self.rt, to.as_str()).is_err();
+        if is_gone {
+            self.put_at(from, name, to.as_str())?;
         }
-        let beside = format!(in self.rt.alloc(); "{}.restored", to.as_str())?;
+        Ok(is_gone)
+    }
+
+    /// Copies a match durably into the new folder `to`, through one beside it.
+    fn put_at(&self, from: &str, name: &str, to: &str) -> io::Result<()> {
+        let beside = format!(in self.rt.alloc(); "{to}.restored")?;
         // An earlier copy that was interrupted by a kill is removed first.
         let _ = fs::remove_dir_all(self.rt, beside.as_str());
-        let from = path_in(self.rt.alloc(), from, name)?;
-        if let Err(error) = copy_match(self.rt, from.as_str(), beside.as_str()) {
+        let copied = self.copy(from, name, beside.as_str());
+        if copied.is_err() {
             let _ = fs::remove_dir_all(self.rt, beside.as_str());
-            return Err(error);
+            return copied;
         }
-        fs::rename(self.rt, beside.as_str(), to.as_str())?;
-        sync(self.rt, self.folder)?;
-        Ok(true)
+        fs::rename(self.rt, beside.as_str(), to)?;
+        sync(self.rt, self.folder)
     }
 
     /// Returns the names of the matches in a folder.

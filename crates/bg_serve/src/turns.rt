@@ -5,6 +5,7 @@ use crate::limits::MOST_MADE;
 use crate::quotas::Quota;
 use bg_site::{Site, Store};
 use bg_world::Keeper;
+use std::alloc::AllocError;
 use std::io;
 use std::time::{Duration, Instant};
 
@@ -18,8 +19,11 @@ pub(crate) struct Turns<'a> {
     looked: u64,
     ticked: u64,
     quota: Quota,
-    /// The number of matches made up to the last turn.
+    /// The number of matches made up to the last turn, and that of matches that had ended by then.
     made: u64,
+    pub(crate) ended: u64,
+    /// The log lines of the requests of the last turn; `None` if no log is kept.
+    pub(crate) log: Option<String>,
 }
 
 impl<'a> Turns<'a> {
@@ -35,6 +39,8 @@ impl<'a> Turns<'a> {
             ticked: 0,
             quota: Quota::new(MOST_MADE),
             made: 0,
+            ended: 0,
+            log: None,
         })
     }
 
@@ -56,7 +62,12 @@ impl<'a> Turns<'a> {
         site.begin_minute(now / 60);
         crowd.accept(now);
         crowd.hear_ready(site, now)?;
-        self.tick(site, tenths_of(since));
+        // Matches tick at most ten times a second.
+        let tenth = tenths_of(since);
+        if site.is_restless() && tenth != self.ticked {
+            self.ticked = tenth;
+            site.tick();
+        }
         Ok(now)
     }
 
@@ -68,17 +79,18 @@ impl<'a> Turns<'a> {
     }
 
     /// Sends the clients the results of the turn, once its saves are durable. If a second has
-    /// begun, checks all clients first. Returns the number of matches made.
+    /// begun, checks all clients first. Takes the log of the requests. Returns the number of
+    /// matches made.
     ///
     /// # Errors
-    /// Only `OutOfMemory`, if memory runs out.
+    /// `AllocError` if memory runs out.
     pub(crate) fn tell<K: Keeper + Drop, S: Store<K> + Drop>(
         &mut self,
         crowd: &mut Crowd<'_>,
         site: &mut Site<K, S>,
         now: u64,
         is_second: bool,
-    ) -> io::Result<u64> {
+    ) -> Result<u64, AllocError> {
         if is_second {
             crowd.look(site, now);
         }
@@ -86,6 +98,8 @@ impl<'a> Turns<'a> {
         if site.has_news() {
             crowd.send_news(site, now)?;
         }
+        self.ended = site.ended();
+        self.log = site.take_log();
         Ok(self.note_made(site.made()))
     }
 
@@ -95,14 +109,6 @@ impl<'a> Turns<'a> {
         self.made = made;
         self.quota.take(fresh);
         fresh
-    }
-
-    /// Ticks the matches that have something left to do, at most ten times a second.
-    fn tick<K: Keeper + Drop, S: Store<K> + Drop>(&mut self, site: &mut Site<K, S>, tenth: u64) {
-        if site.is_restless() && tenth != self.ticked {
-            self.ticked = tenth;
-            site.tick();
-        }
     }
 }
 

@@ -49,22 +49,18 @@ impl<'a> Server<'a> {
         }
     }
 
-    /// Reloads these matches, which other servers have changed.
+    /// Reloads these matches, which other servers have changed, from the folder and the turn. One
+    /// that can't be read is no longer served, because nobody knows which part of it is saved.
     pub(crate) fn renew_all(&mut self, names: &[String]) {
         for name in names.iter() {
-            self.renew(name.as_str());
-        }
-    }
-
-    /// Reloads a match that another server has changed, from the folder and the turn. If it can't
-    /// be read, it is no longer served, because nobody knows which part of it is saved.
-    fn renew(&mut self, name: &str) {
-        let is_there = match self.store().find(name) {
-            Ok(Some((found, None))) => self.site.replace(Box::into_inner(found)),
-            _ => false,
-        };
-        if !is_there {
-            self.site.remove(name);
+            let name = name.as_str();
+            let is_there = match self.store().find(name) {
+                Ok(Some((found, None))) => self.site.replace(Box::into_inner(found)),
+                _ => false,
+            };
+            if !is_there {
+                self.site.remove(name);
+            }
         }
     }
 }

@@ -36,7 +36,6 @@ pub enum Step {
 /// A WebSocket: the bytes that were read and not handled yet, and those that wait to be sent.
 #[derive(Drop)]
 pub struct Channel {
-    alloc: Global,
     context: WebSocketContext,
     input: BytesMut,
     output: Rope,
@@ -51,7 +50,6 @@ impl Channel {
             .max_message_size(Some(MOST_MESSAGE))
             .max_frame_size(Some(MOST_MESSAGE));
         Channel {
-            alloc,
             context: WebSocketContext::new(alloc, Role::Server, config),
             input,
             output,
@@ -123,35 +121,25 @@ impl Channel {
         if self.input.is_empty() {
             return Step::Waits;
         }
-        let mut replies = BytesMut::new(self.alloc);
-        let step = match self
+        match self
             .context
-            .read(self.input.as_mut_slice(), &mut replies, &mut NoMask)
+            .read(self.input.as_mut_slice(), &mut self.output, &mut NoMask)
         {
-            Ok(FrameStatus::Partial(_)) => return Step::Waits,
-            Ok(FrameStatus::Complete(step)) => step,
-            Err(_) => return Step::Gone,
-        };
-        let stays = match &step.message {
-            Some(received) => match received.message(self.input.as_slice()) {
-                Message::Text(text) => { answer_text(site, &mut self.peer, text, &mut self.output) }
-                _ => true,
-            },
-            None => true,
-        };
-        self.input.advance(step.consumed);
-        if stays && self.put(replies) {
-            Step::More
-        } else {
-            Step::Gone
-        }
-    }
-
-    /// Queues bytes to be sent. Returns whether there was memory for them.
-    fn put(&mut self, bytes: BytesMut) -> bool {
-        match bytes.freeze() {
-            Ok(bytes) => self.output.push(bytes).is_ok(),
-            Err(_) => false,
+            Ok(FrameStatus::Complete(frame)) => {
+                let stays = match &frame.message {
+                    Some(received) => match received.message(self.input.as_slice()) {
+                        Message::Text(text) => {
+                            answer_text(site, &mut self.peer, text, &mut self.output)
+                        }
+                        _ => true,
+                    },
+                    None => true,
+                };
+                self.input.advance(frame.consumed);
+                if stays { Step::More } else { Step::Gone }
+            }
+            Ok(FrameStatus::Partial(_)) => Step::Waits,
+            Err(_) => Step::Gone,
         }
     }
 
@@ -176,14 +164,9 @@ impl Channel {
 
     /// Queues a ping, to learn whether the peer is still there. Returns whether this succeeded.
     pub fn ask(&mut self) -> bool {
-        let mut out = BytesMut::new(self.alloc);
-        match self
-            .context
-            .write(Message::Ping(b""), &mut out, &mut NoMask)
-        {
-            Ok(()) => self.put(out),
-            Err(_) => false,
-        }
+        self.context
+            .write(Message::Ping(b""), &mut self.output, &mut NoMask)
+            .is_ok()
     }
 }
 

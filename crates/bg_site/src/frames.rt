@@ -24,15 +24,11 @@ impl Frames {
     }
 
     /// Returns the frame for peers with this seat, or for watchers, if it has been made.
-    pub(crate) fn of(&self, seat: Option<Player>) -> Result<Option<Bytes>, AllocError> {
-        let frame = match seat {
-            None => &self.watching,
-            Some(Player::X) => &self.x,
-            Some(Player::O) => &self.o,
-        };
-        match frame {
-            Some(frame) => Ok(Some(frame.clone()?)),
-            None => Ok(None),
+    pub(crate) fn of(&self, seat: Option<Player>) -> Option<&Bytes> {
+        match seat {
+            None => self.watching.as_ref(),
+            Some(Player::X) => self.x.as_ref(),
+            Some(Player::O) => self.o.as_ref(),
         }
     }
 

@@ -1,5 +1,6 @@
-//! Messages to a peer other than the state: the greeting, and who is present.
+//! Frames for a peer other than the state: the greeting, and who is present.
 
+use crate::frames::frame_of;
 use crate::making::digits_of;
 use crate::presences::Presence;
 use bg_board::Player;
@@ -7,24 +8,25 @@ use bg_requests::Digest;
 use bg_states::{letter_of, put_quoted, truth};
 use bg_system::{Name, Names};
 use bg_text::{put_number, put_text};
+use bytes::Bytes;
 use std::alloc::{AllocError, Global};
 
-/// Returns the greeting of a peer: the name of its match, the names of the players, its seat, and
-/// the SHA-256 of the secret of the dice.
-pub(crate) fn greeting_text(
+/// Returns the frame that greets a peer: the name of its match, the names of the players, its seat,
+/// and the SHA-256 of the secret of the dice.
+pub(crate) fn greeting_frame(
     alloc: Global,
     name: &str,
     names: &Names,
     seat: Option<Player>,
     digest: &Option<Digest>,
-) -> Result<Vec<u8>, AllocError> {
+) -> Result<Bytes, AllocError> {
     let digits = digits_of(alloc, digest)?;
     let mut out = Vec::new(alloc);
     put_greeting(&mut out, name, names, seat)?;
     put_text(&mut out, ",\"dice\":\"")?;
     put_text(&mut out, digits.as_str())?;
     put_text(&mut out, "\"}")?;
-    Ok(out)
+    frame_of(alloc, &out)
 }
 
 /// Adds the name of the match, the names of its players, and the seat of a peer.
@@ -59,13 +61,13 @@ fn put_name(out: &mut Vec<u8>, name: &Option<Name>) -> Result<(), AllocError> {
     }
 }
 
-/// Returns the message that says who is present.
-pub(crate) fn presence_text(alloc: Global, presence: Presence) -> Result<Vec<u8>, AllocError> {
+/// Returns the frame that says who is present.
+pub(crate) fn presence_frame(alloc: Global, presence: Presence) -> Result<Bytes, AllocError> {
     let mut out = Vec::new(alloc);
     put_text(&mut out, "{")?;
     put_presence(&mut out, presence)?;
     put_text(&mut out, "}")?;
-    Ok(out)
+    frame_of(alloc, &out)
 }
 
 /// Adds who is present: whether X and O are, and the number of watchers.

@@ -41,6 +41,7 @@ mod sites;
 mod sockets;
 mod stores;
 mod summaries;
+mod ticks;
 
 pub use addresses::{MOST_CONNECTIONS_OF_ADDRESS, MOST_MADE_BY_ADDRESS, MOST_OF_ADDRESS};
 pub use bg_requests::{Digest, MOST_MESSAGE, Seats, digest_of};

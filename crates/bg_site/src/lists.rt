@@ -175,11 +175,16 @@ pub(crate) fn page_of<K>(
 ) -> Result<Vec<usize>, AllocError> {
     let found = found_by(alloc, places, wanted)?;
     let start = (wanted.before as usize).saturating_mul(PAGE);
-    let mut page = Vec::new(alloc);
-    for row in rows_from(&found, start) {
-        page.push(row.1)?;
+    indexes_of(alloc, rows_from(&found, start))
+}
+
+/// Returns the indexes of the matches in these rows.
+fn indexes_of(alloc: Global, rows: &[(u64, usize)]) -> Result<Vec<usize>, AllocError> {
+    let mut indexes = Vec::new(alloc);
+    for row in rows {
+        indexes.push(row.1)?;
     }
-    Ok(page)
+    Ok(indexes)
 }
 
 /// Returns the rank and the index of each match that is asked for, in order.

@@ -31,11 +31,19 @@ impl<K: Keeper + Drop, S: Store<K> + Drop> Site<K, S> {
         response: &mut Response,
     ) -> Result<(), AllocError> {
         let query = request.uri().query();
-        let search = query_part(query, "search").unwrap_or("");
-        let search = form_urlencoded::decode(self.alloc, search.as_bytes())?;
-        let search = search.as_str().to_lowercase(self.alloc)?;
+        let search = search_in(self.alloc, query)?;
         let wanted = Wanted::of(query, search.as_str(), self.patience);
-        match (wanted, query_part(query, "form")) {
+        self.answer_list(wanted, query_part(query, "form"), response)
+    }
+
+    /// Answers with a page of a list in this form.
+    fn answer_list(
+        &self,
+        wanted: Option<Wanted<'_>>,
+        form: Option<&str>,
+        response: &mut Response,
+    ) -> Result<(), AllocError> {
+        match (wanted, form) {
             (Some(wanted), Some("transcript")) => self.archive(wanted, Asked::Transcript, response),
             (Some(wanted), Some("mat")) => self.archive(wanted, Asked::Mat, response),
             (Some(wanted), None) => {
@@ -160,6 +168,13 @@ impl<K: Keeper + Drop, S: Store<K> + Drop> Site<K, S> {
             ),
         }
     }
+}
+
+/// Returns the text that a query searches for, in lower case.
+fn search_in(alloc: Global, query: Option<&str>) -> Result<String, AllocError> {
+    let search = query_part(query, "search").unwrap_or("");
+    let search = form_urlencoded::decode(alloc, search.as_bytes())?;
+    search.as_str().to_lowercase(alloc)
 }
 
 /// Answers that there is no room for another match.

@@ -11,13 +11,29 @@ use bg_states::put_quoted;
 use bg_text::{parse_action, put_number, put_text};
 use bg_world::Keeper;
 use bytes::Bytes;
-use std::alloc::AllocError;
+use std::alloc::{AllocError, Global};
+
+/// The answer to what is no message.
+const NO_MESSAGE: &[u8] = b"{\"no\":\"this is no message\"}";
+
+/// The answer if a secret is no seat's, or no longer one's.
+const NO_SEAT: &[u8] = b"{\"no\":\"there is no such seat\"}";
 
 /// The answer to a message, and whether the peer may stay.
 #[derive(Drop)]
 pub struct Reply {
     pub frame: Bytes,
     pub stays: bool,
+}
+
+impl Reply {
+    /// Returns the reply with this text.
+    fn of(alloc: Global, text: &[u8], stays: bool) -> Result<Reply, AllocError> {
+        Ok(Reply {
+            frame: frame_of(alloc, text)?,
+            stays,
+        })
+    }
 }
 
 impl<K: Keeper + Drop, S: Store<K> + Drop> Site<K, S> {
@@ -42,7 +58,7 @@ impl<K: Keeper + Drop, S: Store<K> + Drop> Site<K, S> {
             Message::Act(number, words) if peer.is_known() => {
                 self.act_by_message(peer, number, words)
             }
-            _ => self.reply(b"{\"no\":\"this is no message\"}", peer.is_known()),
+            _ => Reply::of(self.alloc, NO_MESSAGE, peer.is_known()),
         }
     }
 
@@ -51,11 +67,11 @@ impl<K: Keeper + Drop, S: Store<K> + Drop> Site<K, S> {
         ensures { peer.old.place ≡ None → HasSeatBy self.old.places.items secret.now peer.new }
     {
         let Some((index, player)) = self.by_secret(secret) else {
-            return self.reply(b"{\"no\":\"there is no such seat\"}", false);
+            return Reply::of(self.alloc, NO_SEAT, false);
         };
         peer.sit(index, player, self.seat_changes_at(index, player));
         self.come(peer);
-        self.reply(b"{\"hello\":true}", true)
+        Reply::of(self.alloc, b"{\"hello\":true}", true)
     }
 
     /// Carries out an action of the player whose seat a peer has.
@@ -65,20 +81,13 @@ impl<K: Keeper + Drop, S: Store<K> + Drop> Site<K, S> {
             → ChangesOnly self.old.places.items self.new.places.items place }
     {
         if !self.may_stay(peer) {
-            return self.reply(b"{\"no\":\"there is no such seat\"}", false);
+            return Reply::of(self.alloc, NO_SEAT, false);
         }
         let (Some(index), Some(player)) = (peer.place, peer.seat) else {
-            return self.reply(b"{\"no\":\"you watch\"}", true);
+            return Reply::of(self.alloc, b"{\"no\":\"you watch\"}", true);
         };
         let answer = self.answer_of(index, player, number, words)?;
-        self.reply(&answer, true)
-    }
-
-    fn reply(&self, text: &[u8], stays: bool) -> Result<Reply, AllocError> {
-        Ok(Reply {
-            frame: frame_of(self.alloc, text)?,
-            stays,
-        })
+        Reply::of(self.alloc, &answer, true)
     }
 
     /// Carries out a player's action, and returns the answer to it.

@@ -1,7 +1,7 @@
 //! Changes that the operator of a server makes to its matches while it runs.
 
 use crate::peers::Peer;
-use crate::quiet::Quiet;
+use crate::places::Place;
 use crate::sites::Site;
 use crate::stores::{Found, Store};
 use bg_requests::Seats;
@@ -52,15 +52,19 @@ impl<K: Keeper + Drop, S: Store<K> + Drop> Site<K, S> {
         self.patience.idle = minutes;
     }
 
+    /// Returns the match with this name, unless it has been deleted.
+    fn named_mut(&mut self, name: &str) -> Option<&mut Place<K>> {
+        let index = self.by_name(name)?;
+        self.places.get_mut(index)
+    }
+
     /// Applies an operator's change to a match. Returns whether there is such a match.
     pub fn change(&mut self, name: &str, changed: Changed) -> bool {
-        let Some(index) = self.by_name(name) else {
+        let Some(place) = self.named_mut(name) else {
             return false;
         };
+        place.change(changed);
         let _ = self.note_news();
-        if let Some(place) = self.places.get_mut(index) {
-            place.change(changed);
-        }
         true
     }
 
@@ -69,20 +73,16 @@ impl<K: Keeper + Drop, S: Store<K> + Drop> Site<K, S> {
     /// If it has no other number of entries now, nobody has acted: it stays idle, and keeps its
     /// place in lists. Returns false if there is no room or no memory for it; then nothing changes.
     pub fn replace(&mut self, found: Found<K>) -> bool {
-        let Some(index) = self.by_name(found.name.as_str()) else {
+        let (alloc, news, minute) = (self.alloc, self.note_news(), self.patience.now);
+        let Some(place) = self.named_mut(found.name.as_str()) else {
             return self.open(found);
         };
-        let (news, minute) = (self.note_news(), self.patience.now);
-        let Some(place) = self.places.get_mut(index) else {
-            return false;
-        };
         let (was_live, entries) = (place.is_live(), place.summary.entries);
-        if !place.replace(self.alloc, found) {
+        if !place.replace(alloc, found) {
             return false;
         }
         if place.summary.entries != entries {
-            place.news = news;
-            place.quiet = Quiet::broken(minute);
+            place.note_action(news, minute);
         }
         if was_live && !place.is_live() {
             self.counts.note_end();
@@ -100,14 +100,12 @@ impl<K: Keeper + Drop, S: Store<K> + Drop> Site<K, S> {
 
     /// Removes a match that the operator has deleted. Returns whether there was such a match.
     pub fn remove(&mut self, name: &str) -> bool {
-        let Some(index) = self.by_name(name) else {
+        let Some(place) = self.named_mut(name) else {
             return false;
         };
+        place.remove();
+        self.gone = self.gone.saturating_add(1);
         let _ = self.note_news();
-        if let Some(place) = self.places.get_mut(index) {
-            place.remove();
-            self.gone = self.gone.saturating_add(1);
-        }
         true
     }
 

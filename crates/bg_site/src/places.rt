@@ -97,6 +97,18 @@ impl<K: Keeper + Drop> Place<K> {
         Some(place)
     }
 
+    /// Returns whether the match has this name, and has not been deleted.
+    pub(crate) fn is_named(&self, name: &str) -> bool {
+        self.name.as_str() == name && !self.is_gone
+    }
+
+    /// Notes that somebody has acted in this minute, which is the change of this number among those
+    /// of all matches.
+    pub(crate) fn note_action(&mut self, news: u64, minute: u64) {
+        self.news = news;
+        self.quiet = Quiet::broken(minute);
+    }
+
     /// Applies an operator's change.
     pub(crate) fn change(&mut self, changed: Changed)
         ensures { self.new.seats ≡ changed.seats }

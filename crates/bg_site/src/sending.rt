@@ -3,7 +3,7 @@ ghost use Rattle.std.specs.Prelude.{◌≡◌, ℕ, Some};
 
 use crate::files::{Asked, Given};
 use crate::frames::frame_of;
-use crate::greetings::{greeting_text, presence_text};
+use crate::greetings::{greeting_frame, presence_frame};
 use crate::peers::Peer;
 use crate::sites::Site;
 use crate::stores::Store;
@@ -87,14 +87,9 @@ impl<K: Keeper + Drop, S: Store<K> + Drop> Site<K, S> {
         if !peer.is_greeted {
             peer.is_greeted = true;
             let name = place.name.as_str();
-            let text = greeting_text(
-                self.alloc,
-                name,
-                &place.names,
-                peer.seat,
-                place.digest_told(),
-            )?;
-            return Ok(Some(frame_of(self.alloc, &text)?));
+            let digest = place.digest_told();
+            let frame = greeting_frame(self.alloc, name, &place.names, peer.seat, digest)?;
+            return Ok(Some(frame));
         }
         if peer.version != version {
             if let Some(frame) = self.state_frame(index, peer.seat)? {
@@ -104,8 +99,7 @@ impl<K: Keeper + Drop, S: Store<K> + Drop> Site<K, S> {
         }
         if peer.comings != comings {
             peer.comings = comings;
-            let text = presence_text(self.alloc, presence)?;
-            return Ok(Some(frame_of(self.alloc, &text)?));
+            return Ok(Some(presence_frame(self.alloc, presence)?));
         }
         Ok(None)
     }
@@ -117,18 +111,31 @@ impl<K: Keeper + Drop, S: Store<K> + Drop> Site<K, S> {
         index: usize,
         seat: Option<Player>,
     ) -> Result<Option<Bytes>, AllocError> {
-        if let Some(place) = self.places.get(index) {
-            if let Some(frame) = place.frames.of(seat)? {
-                return Ok(Some(frame));
+        if self.kept_frame(index, seat).is_none() {
+            self.make_frame(index, seat)?;
+        }
+        match self.kept_frame(index, seat) {
+            Some(frame) => Ok(Some(frame.clone()?)),
+            None => Ok(None),
+        }
+    }
+
+    /// Returns the frame of the state of a match, if it has been made.
+    fn kept_frame(&self, index: usize, seat: Option<Player>) -> Option<&Bytes> {
+        match self.places.get(index) {
+            Some(place) => place.frames.of(seat),
+            None => None,
+        }
+    }
+
+    /// Makes the frame of the state of a match, if the match can be read.
+    fn make_frame(&mut self, index: usize, seat: Option<Player>) -> Result<(), AllocError> {
+        if let Given::Text(text) = self.give(index, Asked::State(seat))? {
+            let frame = frame_of(self.alloc, &text)?;
+            if let Some(place) = self.places.get_mut(index) {
+                place.frames.keep(seat, frame);
             }
         }
-        let Given::Text(text) = self.give(index, Asked::State(seat))? else {
-            return Ok(None);
-        };
-        let frame = frame_of(self.alloc, &text)?;
-        if let Some(place) = self.places.get_mut(index) {
-            place.frames.keep(seat, frame.clone()?);
-        }
-        Ok(Some(frame))
+        Ok(())
     }
 }

@@ -7,7 +7,7 @@ use crate::callers::Caller;
 use crate::counts::Counts;
 use crate::peers::Peer;
 use crate::places::{Place, acted_before};
-use crate::quiet::{Patience, Quiet};
+use crate::quiet::Patience;
 use crate::repeats::Repeats;
 use crate::stores::{Found, Store};
 use bg_board::Player;
@@ -42,7 +42,7 @@ pub struct Site<K, S> {
     /// live.
     pub(crate) patience: Patience,
     /// The number of changes so far.
-    news: u64,
+    pub(crate) news: u64,
     /// The number of changes when the host last asked.
     asked: u64,
     /// The counters.
@@ -144,32 +144,6 @@ impl<K: Keeper + Drop, S: Store<K> + Drop> Site<K, S> {
         has_news
     }
 
-    /// Returns whether any match has something left to do on a tick.
-    pub fn is_restless(&self) -> bool {
-        for place in self.places.iter() {
-            if place.is_restless() && !place.is_still(&self.store) {
-                return true;
-            }
-        }
-        false
-    }
-
-    /// Ticks the matches that have something left to do.
-    pub fn tick(&mut self) {
-        let (mut news, minute) = (self.news, self.patience.now);
-        for place in self.places.iter_mut() {
-            if !place.is_still(&self.store) && place.tick() {
-                news = news.saturating_add(1);
-                place.news = news;
-                place.quiet = Quiet::broken(minute);
-                if !place.is_live() {
-                    self.counts.note_end();
-                }
-            }
-        }
-        self.news = news;
-    }
-
     /// Counts a change, and returns the number of changes so far.
     pub(crate) fn note_news(&mut self) -> u64
         ensures { self.new.places ≡ self.old.places }
@@ -180,12 +154,20 @@ impl<K: Keeper + Drop, S: Store<K> + Drop> Site<K, S> {
 
     /// Returns the index of the match with this name, unless it has been deleted.
     pub(crate) fn by_name(&self, name: &str) -> Option<usize> {
-        for (index, place) in self.places.iter().enumerate() {
-            if place.name.as_str() == name && !place.is_gone {
+        for index in 0..self.places.len() {
+            if self.is_named_at(index, name) {
                 return Some(index);
             }
         }
         None
+    }
+
+    /// Returns whether the match at an index has this name, and has not been deleted.
+    fn is_named_at(&self, index: usize, name: &str) -> bool {
+        match self.places.get(index) {
+            Some(place) => place.is_named(name),
+            None => false,
+        }
     }
 
     /// Returns the index of the match, and the player, whose seat has this secret. Every match is
@@ -248,8 +230,7 @@ impl<K: Keeper + Drop, S: Store<K> + Drop> Site<K, S> {
         }
         let acted = place.act(player, number, action);
         if place.refresh() {
-            place.news = news;
-            place.quiet = Quiet::broken(minute);
+            place.note_action(news, minute);
             self.news = news;
             if !place.is_live() {
                 self.counts.note_end();

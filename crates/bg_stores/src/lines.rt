@@ -2,6 +2,7 @@
 
 use bg_etcd::{Exchange, Fault};
 use std::alloc::{AllocError, Global};
+use std::io;
 use std::io::ErrorKind;
 use std::net::{TcpStream, ToSocketAddrs};
 use std::time::Duration;
@@ -30,20 +31,9 @@ pub struct Line {
 impl Line {
     /// Connects to a member.
     pub fn open(rt: &HostRuntime, host: &str) -> Result<Box<Line>, Fault> {
-        let wait = Duration::from_millis(A_WHILE);
-        let mut fault = Fault::Away(ErrorKind::NotFound);
-        for address in host.to_socket_addrs(rt)? {
-            match TcpStream::connect_timeout(rt, &address, wait) {
-                Ok(stream) => {
-                    stream.set_nodelay(true)?;
-                    stream.set_read_timeout(Some(wait))?;
-                    stream.set_write_timeout(Some(wait))?;
-                    return Ok(Line::over(rt.alloc(), stream)?);
-                }
-                Err(error) => fault = Fault::Away(error.kind()),
-            }
-        }
-        Err(fault)
+        let stream = connected(rt, host)?;
+        set_waits(&stream)?;
+        Ok(Line::over(rt.alloc(), stream)?)
     }
 
     /// Returns the connection over a stream on which nothing was asked yet.
@@ -117,4 +107,24 @@ impl Line {
         }
         Err(Fault::Away(ErrorKind::UnexpectedEof))
     }
+}
+
+/// Connects to the first address of a host that can be reached.
+fn connected(rt: &HostRuntime, host: &str) -> io::Result<TcpStream> {
+    let mut reason = ErrorKind::NotFound;
+    for address in host.to_socket_addrs(rt)? {
+        match TcpStream::connect_timeout(rt, &address, Duration::from_millis(A_WHILE)) {
+            Ok(stream) => return Ok(stream),
+            Err(error) => reason = error.kind(),
+        }
+    }
+    Err(io::Error::from(reason))
+}
+
+/// Makes a stream send at once, and wait only a while.
+fn set_waits(stream: &TcpStream) -> io::Result<()> {
+    let wait = Some(Duration::from_millis(A_WHILE));
+    stream.set_nodelay(true)?;
+    stream.set_read_timeout(wait)?;
+    stream.set_write_timeout(wait)
 }

@@ -48,20 +48,10 @@ impl LongTexts {
 
     /// Notes a match, unless it is already noted with the same `is_full`, or as full.
     fn note(&self, name: &str, is_full: bool) -> Result<(), DeviceFault> {
-        let Ok(mut found) = self.found.try_borrow_mut() else {
-            return Ok(());
-        };
-        for long in found.iter() {
-            if long.name.as_str() == name && (long.is_full || !is_full) {
-                return Ok(());
-            }
+        match self.found.try_borrow_mut() {
+            Ok(mut found) => note_in(self.alloc, &mut found, name, is_full),
+            Err(_) => Ok(()),
         }
-        found.push(LongMatch {
-            name: String::from_str(self.alloc, name)?,
-            is_full,
-            is_told: false,
-        })?;
-        Ok(())
     }
 
     /// Returns whether nothing more of a match is saved.
@@ -84,16 +74,42 @@ impl LongTexts {
     /// Returns the name of the next match that was not reported yet, and whether it is full. Marks
     /// the match as reported. Returns `None` if there is none, or no memory for its name.
     pub fn next_untold(&self) -> Option<(String, bool)> {
-        let Ok(mut found) = self.found.try_borrow_mut() else {
-            return None;
-        };
-        for long in found.iter_mut() {
-            if !long.is_told {
-                let name = String::from_str(self.alloc, long.name.as_str()).ok()?;
-                long.is_told = true;
-                return Some((name, long.is_full));
-            }
+        match self.found.try_borrow_mut() {
+            Ok(mut found) => next_untold_in(self.alloc, &mut found),
+            Err(_) => None,
         }
-        None
     }
+}
+
+/// Adds a match, unless it is already there with the same `is_full`, or as full.
+fn note_in(
+    alloc: Global,
+    found: &mut Vec<LongMatch>,
+    name: &str,
+    is_full: bool,
+) -> Result<(), DeviceFault> {
+    for long in found.iter() {
+        if long.name.as_str() == name && (long.is_full || !is_full) {
+            return Ok(());
+        }
+    }
+    found.push(LongMatch {
+        name: String::from_str(alloc, name)?,
+        is_full,
+        is_told: false,
+    })?;
+    Ok(())
+}
+
+/// Marks the next match that was not reported yet as reported. Returns its name, and whether it is
+/// full.
+fn next_untold_in(alloc: Global, found: &mut [LongMatch]) -> Option<(String, bool)> {
+    for long in found.iter_mut() {
+        if !long.is_told {
+            let name = String::from_str(alloc, long.name.as_str()).ok()?;
+            long.is_told = true;
+            return Some((name, long.is_full));
+        }
+    }
+    None
 }

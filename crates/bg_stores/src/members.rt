@@ -35,14 +35,7 @@ impl<'a> Members<'a> {
 
     /// Returns the address of the member at a place. Places beyond the last member wrap around.
     pub fn host_at(&self, place: usize) -> &str {
-        let at = match place.checked_rem(self.hosts.len()) {
-            Some(at) => at,
-            None => 0,
-        };
-        match self.hosts.get(at) {
-            Some(host) => host.as_str(),
-            None => "",
-        }
+        host_at(&self.hosts, place)
     }
 
     /// Returns how many full rounds of all members come before a place.
@@ -114,21 +107,12 @@ impl<'a> Members<'a> {
     /// status of 500 or more is a fault: the request can't be carried out now.
     fn ask_one(&mut self, path: &str, text: &str) -> Result<Option<Answer>, Fault> {
         let alloc = self.rt.alloc();
-        if self
-            .line
-            .as_ref()
-            .is_some_and(|line| line.is_asked_else(text))
-        {
-            self.line = None;
-        }
-        if self.line.is_none() {
-            self.line = Some(Line::open(self.rt, self.host_at(self.at))?);
-        }
-        let host = String::from_str(alloc, self.host_at(self.at))?;
+        self.connect(text)?;
         let Some(line) = &mut self.line else {
             return Err(Fault::Away(ErrorKind::NotConnected));
         };
-        let Some((status, body)) = line.ask(alloc, host.as_str(), path, text)? else {
+        let host = host_at(&self.hosts, self.at);
+        let Some((status, body)) = line.ask(alloc, host, path, text)? else {
             return Ok(None);
         };
         if !line.is_idle() {
@@ -138,6 +122,32 @@ impl<'a> Members<'a> {
             revision_in(alloc, status, &body)?;
         }
         Ok(Some((status, body)))
+    }
+
+    /// Connects to the member whose turn it is, unless there is a connection that doesn't wait for
+    /// the answer to another request.
+    fn connect(&mut self, text: &str) -> Result<(), Fault> {
+        let is_free = match &self.line {
+            Some(line) => !line.is_asked_else(text),
+            None => false,
+        };
+        if !is_free {
+            self.line = None;
+            self.line = Some(Line::open(self.rt, self.host_at(self.at))?);
+        }
+        Ok(())
+    }
+}
+
+/// Returns the host at a place. Places beyond the last host wrap around.
+fn host_at(hosts: &[String], place: usize) -> &str {
+    let at = match place.checked_rem(hosts.len()) {
+        Some(at) => at,
+        None => 0,
+    };
+    match hosts.get(at) {
+        Some(host) => host.as_str(),
+        None => "",
     }
 }
 

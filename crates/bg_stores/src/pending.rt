@@ -4,7 +4,7 @@ use crate::known::Known;
 use crate::troubles::Trouble;
 use bg_etcd::{Batches, Changes, File};
 use bg_journal::FileText;
-use std::alloc::Global;
+use std::alloc::{AllocError, Global};
 
 /// The changes that are still to be put into a store.
 #[derive(Drop)]
@@ -44,20 +44,26 @@ impl Pending {
         let Some((folder, _)) = file.name.as_str().split_once('/') else {
             return Ok(());
         };
-        let file = File {
-            name: String::from_str(self.alloc, file.name.as_str())?,
-            text: file.text.as_slice().to_vec(self.alloc)?,
-            revision: 0,
-        };
-        for changes in self.changes.iter_mut() {
-            if changes.folder.as_str() == folder {
-                return Ok(changes.put(file)?);
+        let copy = copy_of(self.alloc, file)?;
+        match self.changes_of(folder) {
+            Some(changes) => changes.put(copy)?,
+            None => {
+                let mut changes = Changes::new(self.alloc, folder, known.of(folder))?;
+                changes.put(copy)?;
+                self.changes.push(changes)?;
             }
         }
-        let mut changes = Changes::new(self.alloc, folder, known.of(folder))?;
-        changes.put(file)?;
-        self.changes.push(changes)?;
         Ok(())
+    }
+
+    /// Returns the changes of a match, if it has any.
+    fn changes_of(&mut self, folder: &str) -> Option<&mut Changes> {
+        for changes in self.changes.iter_mut() {
+            if changes.folder.as_str() == folder {
+                return Some(changes);
+            }
+        }
+        None
     }
 
     /// Adds a match to those to be removed, and drops its other changes.
@@ -100,4 +106,13 @@ impl Pending {
         self.alone = self.alone.saturating_sub(1);
         Some(self.changes.remove(0))
     }
+}
+
+/// Returns a copy of a file that is not in the store yet.
+fn copy_of(alloc: Global, file: &FileText) -> Result<File, AllocError> {
+    Ok(File {
+        name: String::from_str(alloc, file.name.as_str())?,
+        text: file.text.as_slice().to_vec(alloc)?,
+        revision: 0,
+    })
 }

@@ -52,15 +52,19 @@ impl TurnSaves {
     /// Adds a save. With a store, only the newest save of a party in a turn is kept, because all
     /// saves of a match in a turn are one transaction.
     fn add_save(&self, other: &str, file: FileText) -> Result<(), DeviceFault> {
-        let Some(long) = &self.long else {
-            return self.add(Change::Put(file));
-        };
-        long.check(file.name.as_str(), file.text.len())?;
+        if let Some(long) = &self.long {
+            long.check(file.name.as_str(), file.text.len())?;
+            self.remove_puts(file.name.as_str(), other)?;
+        }
+        self.add(Change::Put(file))
+    }
+
+    /// Removes the saves into these two files from the changes of this turn.
+    fn remove_puts(&self, name: &str, other: &str) -> Result<(), DeviceFault> {
         match self.fresh.try_borrow_mut() {
             Ok(mut fresh) => {
-                let name = file.name.as_str();
                 fresh.retain(|change| !is_put_of(change, name) && !is_put_of(change, other));
-                Ok(fresh.push(Change::Put(file))?)
+                Ok(())
             }
             Err(_) => Err(DeviceFault::Failed),
         }
@@ -92,15 +96,25 @@ impl TurnSaves {
         let (Ok(fresh), Ok(behind)) = (self.fresh.try_borrow(), self.behind.try_borrow()) else {
             return Err(DeviceFault::Failed);
         };
-        match newest_of(&fresh, name) {
-            Newest::Text(text) => return Ok(Some(text.to_vec(alloc)?)),
-            Newest::Gone => return Ok(None),
-            Newest::Unchanged => {}
-        }
-        match behind.text_of(name) {
-            Some(text) => Ok(Some(text.to_vec(alloc)?)),
-            None => Ok(None),
-        }
+        newest_text(alloc, &fresh, &behind, name)
+    }
+}
+
+/// Returns a copy of the text that a file has after fresh changes, if the file itself may be older.
+fn newest_text(
+    alloc: Global,
+    fresh: &[Change],
+    behind: &Behind,
+    name: &str,
+) -> Result<Option<Vec<u8>>, DeviceFault> {
+    let text = match newest_of(fresh, name) {
+        Newest::Text(text) => Some(text),
+        Newest::Gone => None,
+        Newest::Unchanged => behind.text_of(name),
+    };
+    match text {
+        Some(text) => Ok(Some(text.to_vec(alloc)?)),
+        None => Ok(None),
     }
 }
 

@@ -42,26 +42,29 @@ impl Watch {
         (host, round): (&str, usize),
         revision: u64,
     ) -> Result<Box<Watch>, Fault> {
-        let mut stream = TcpStream::connect(rt, address_of(rt, host, round)?)?;
-        registry.register(&mut stream, WATCH, Interest::READABLE | Interest::WRITABLE)?;
-        let mut exchange = Exchange::new(rt.alloc());
-        let text = watch_text(rt.alloc(), revision)?;
-        exchange.ask(host, "/v3/watch", text.as_str())?;
-        Ok(Watch::over(rt.alloc(), stream, exchange)?)
+        let stream = TcpStream::connect(rt, address_of(rt, host, round)?)?;
+        let mut watch = Watch::over(rt.alloc(), stream)?;
+        watch.ask(registry, host, revision)?;
+        Ok(watch)
     }
 
-    /// Returns the watch over a stream, for which `exchange` has the request.
-    fn over(
-        alloc: Global,
-        stream: TcpStream,
-        exchange: Exchange,
-    ) -> Result<Box<Watch>, AllocError> {
+    /// Returns the watch over a stream on which nothing was asked yet.
+    fn over(alloc: Global, stream: TcpStream) -> Result<Box<Watch>, AllocError> {
         let watch = Watch {
             alloc,
             stream,
-            exchange,
+            exchange: Exchange::new(alloc),
         };
         Ok(Box::new(alloc, watch)?)
+    }
+
+    /// Registers the connection, and asks the member, which is at `host`, for the changes from a
+    /// revision on.
+    fn ask(&mut self, registry: &Registry, host: &str, revision: u64) -> Result<(), Fault> {
+        let interest = Interest::READABLE | Interest::WRITABLE;
+        registry.register(&mut self.stream, WATCH, interest)?;
+        let text = watch_text(self.alloc, revision)?;
+        self.exchange.ask(host, "/v3/watch", text.as_str())
     }
 
     /// Returns what has come since the last call.
@@ -120,10 +123,13 @@ impl Watch {
 /// Returns an address of a member: each of its first four in turn, one per round. If it has no such
 /// address, returns the first.
 fn address_of(rt: &HostRuntime, host: &str, round: usize) -> Result<SocketAddr, Fault> {
-    if let Some(address) = host.to_socket_addrs(rt)?.nth(round & 3) {
-        return Ok(address);
-    }
-    match host.to_socket_addrs(rt)?.next() {
+    let mut addresses = host.to_socket_addrs(rt)?;
+    let first = addresses.next();
+    let address = match round & 3 {
+        0 => first,
+        later => addresses.nth(later - 1).or(first),
+    };
+    match address {
         Some(address) => Ok(address),
         None => Err(Fault::Away(ErrorKind::NotFound)),
     }

@@ -1,6 +1,8 @@
 """The command that serves matches: its log, also of what it can't write, the ports and folders that it refuses, and how it goes
 on without files."""
+import json
 import os
+import resource
 import shutil
 import socket
 import subprocess
@@ -42,19 +44,23 @@ def log_faults(port):
     """A file that can't be written is logged by its path; that no match can be made is logged once, until one is made again."""
     folder = tempfile.mkdtemp()
     tables = os.path.join(folder, "tables")
-    server = Served(tables, port).begin()
+    # A file that may not grow is to be told to the server, and not to end it.
+    words = [PROGRAM, "serve", "--dir", tables, "--port", str(port)]
+    server = Served(tables, port, ["sh", "-c", "trap '' XFSZ; exec \"$@\"", "sh", *words]).begin()
     try:
         made = server.make(length=1)
         file = fail_to_save(server, made)
         statuses = [make_without_folder(server), server.make(length=1) and 201, make_without_folder(server)]
         right(statuses == [{507}, 201, {507}], f"matches without a folder came to {statuses}")
+        statuses = [server.make(length=1) and 201, make_without_room(server)]
+        right(statuses == [201, {507}], f"matches without room for their files came to {statuses}")
     finally:
         server.kill()
         shutil.rmtree(folder, ignore_errors=True)
     lines = server.process.stderr.read().decode().splitlines()
     right(f"bg_relay: {file} could not be written: it is no plain file" in lines, f"the log lacks {file}: {lines}")
     told = [line for line in lines if line.startswith(f"bg_relay: no match can be made in {tables}: ")]
-    right(len(told) == 2, f"matches that could not be made are logged as {lines}")
+    right(len(told) == 3, f"matches that could not be made are logged as {lines}")
 
 
 def fail_to_save(server, made):
@@ -78,6 +84,18 @@ def make_without_folder(server):
     return statuses
 
 
+def make_without_room(server):
+    """The statuses of some requests to make a match while no file may grow. Nothing is left of these matches."""
+    before = sorted(os.listdir(server.folder))
+    soft, hard = resource.prlimit(server.process.pid, resource.RLIMIT_FSIZE)
+    resource.prlimit(server.process.pid, resource.RLIMIT_FSIZE, (0, hard))
+    statuses = {server.ask("/matches", b'{"length":1}', JSON)[0] for _ in range(3)}
+    resource.prlimit(server.process.pid, resource.RLIMIT_FSIZE, (soft, hard))
+    after = sorted(os.listdir(server.folder))
+    right(after == before, f"matches without room for their files leave {after}, and not {before}")
+    return statuses
+
+
 def make_many(server):
     """So many matches are made that the next one in the same minute is refused, if the machine makes as many in one."""
     begun, statuses = time.monotonic(), []
@@ -98,6 +116,21 @@ def play_logged(server, made):
     turn = state_of(server, name)["turn"].lower()
     for number, words, seat in ((2, "resign normal", turn), (3, "accept", "o" if turn == "x" else "x")):
         server.ask(f"/matches/{name}/actions", f"{number} {words}".encode(), bearer(made[seat]))
+
+
+def serve_an_empty_folder(port):
+    """Over a new folder a server makes it, has no match, and leaves nothing out."""
+    folder = tempfile.mkdtemp()
+    server = Served(os.path.join(folder, "new"), port).begin()
+    try:
+        listed = json.loads(server.ask("/matches")[2])
+    finally:
+        server.kill()
+        shutil.rmtree(folder, ignore_errors=True)
+    right(listed == {"count": 0, "page": 1, "pages": 1, "matches": []}, f"a server without matches lists {listed}")
+    lines = server.process.stderr.read().decode()
+    wanted = f"bg_relay: serving at http://127.0.0.1:{port}, matches: 0\n"
+    right(lines == wanted, f"a server over a new folder says {lines}")
 
 
 def refuse_a_taken_port(server):

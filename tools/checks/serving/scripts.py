@@ -96,6 +96,9 @@ def refuse_requests(server, name, seat):
     for path, body, headers, status, said in (
             ("/matches?list=other", None, {}, 400, "list is live, idle or finished, page a number from 1 on, "),
             ("/matches", b"[" * 5000, JSON, 413, "at most 4096 bytes: send a shorter one\n"),
+            ("/" + "x" * 9000, None, {}, 414, "the first line of a request has at most 8192 bytes: send a shorter path\n"),
+            ("/matches", None, {"host": "a b"}, 400, "this is no valid request of HTTP/1.1: "),
+            ("/matches", b"x", {**JSON, "transfer-encoding": "gzip, chunked"}, 501, "send it as it is, or in chunks\n"),
             ("/matches", None, {"x": "x" * 9000}, 431, "at most 8192 bytes and 64 headers: send fewer\n"),
             ("/matches", None, {f"x-{number}": "x" for number in range(70)}, 431, "64 headers: send fewer\n")):
         came, found, text = server.ask(path, body, headers)
