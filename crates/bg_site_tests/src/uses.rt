@@ -7,9 +7,7 @@ use bg_hosted::{Acted, HostedMatch};
 use bg_journal::{Change, Error, FileText, Journal};
 use bg_match::{Action, Entry, Record, Rules, Terms};
 use bg_pages::{Page, answer_page};
-use bg_processes::Failures;
 use bg_requests::{Message, Part, Target, is_key_of_order, parse_message, target_of};
-use bg_serve::Server;
 use bg_site::{Found, Made, Site, Store};
 use bg_states::state_text;
 use bg_stores::{Known, parts_of};
@@ -173,18 +171,6 @@ fn stores(rt: HostRuntime) -> Result<(), AllocError> {
     assert!(rt; known.of("anna") == 7 && known.of("otto") == 0);
     // The parts of a file's name: its folder, and its name there.
     assert!(rt; parts_of("anna/party-0.1") == Some(("anna", "party-0.1")));
-    // end
-    Ok(())
-}
-
-#[test]
-fn servers(rt: HostRuntime) -> io::Result<()> {
-    // bg_serve
-    let failures = Failures::new();
-    let server = Server::begin(&rt, ".", 0, &failures)?;
-    assert!(rt; server.matches() == 0 && server.left_out().is_empty());
-    let address = server.address()?;
-    assert!(rt; address.port() > 0);
     // end
     Ok(())
 }
