@@ -130,13 +130,14 @@ impl<'a> Logbook<'a> {
     /// Logs who came and went.
     fn look<C: Clock>(&mut self, socket: &PartySocket<'_, C>) {
         for party in REFEREE..=LAST_WATCHER {
+            let (before, behind) = match self.attendance.change(socket, party) {
+                Some(Change::Came) => ("", " is heard"),
+                Some(Change::Left) => ("no word from ", " for a minute"),
+                Some(Change::Returned) => ("", " is heard again"),
+                None => continue,
+            };
             let named = Named(party);
-            match self.attendance.change(socket, party) {
-                Some(Change::Came) => self.say(format_args!("{named} is heard")),
-                Some(Change::Left) => self.say(format_args!("no word from {named} for a minute")),
-                Some(Change::Returned) => self.say(format_args!("{named} is heard again")),
-                None => {}
-            }
+            self.say(format_args!("{before}{named}{behind}"));
         }
     }
 

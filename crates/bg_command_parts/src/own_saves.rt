@@ -1,12 +1,12 @@
 //! The saves of a party, and the messages if it can't go on because of them.
 
-use crate::others_saves::Owner;
+use crate::others_saves::owner_of;
 use bg_console::{failed_barely, no_memory, say, say_failures, slot_path, wrong};
 use bg_match::{LengthFault, Rules};
 use bg_processes::{Failures, MatchFile, Printable, read_saved};
 use bg_reports::Ending;
 use bg_system::number_of_rules;
-use bg_wire::{REFEREE, Saved, Slot, load};
+use bg_wire::{REFEREE, Slot, load};
 use bg_world::{Outcome, RestoreCause, outcome_text};
 use std::fmt;
 use std::fmt::{Display, Formatter, Write};
@@ -27,10 +27,6 @@ impl MatchWords {
             length,
             rules: number_of_rules(rules),
         }
-    }
-
-    fn of_save(saved: &Saved) -> MatchWords {
-        MatchWords::of(saved.log.id(), saved.log.length(), saved.log.rules())
     }
 }
 
@@ -59,14 +55,13 @@ impl<'a> Asked<'a> {
             Asked::Options(id, length, rules) => MatchWords::of(id, length, rules),
         }
     }
-}
 
-impl<'a> Display for Asked<'a> {
-    fn fmt<W: Write>(&self, f: &mut Formatter<W>) -> fmt::Result {
-        f.write_str(match self {
+    /// Returns where it was asked for, as a message says it.
+    fn place(self) -> &'static str {
+        match self {
             Asked::File(_) => "the match file",
             Asked::Options(..) => "this call",
-        })
+        }
     }
 }
 
@@ -107,7 +102,7 @@ pub fn stopped(rt: &HostRuntime, saves: OwnSaves<'_>, outcome: &Outcome) -> Endi
 /// Reports what to do about a party that is down for good, and what is wrong with its saves if they
 /// are the reason. A file that can't be read was reported before.
 fn say_remedy(rt: &HostRuntime, saves: OwnSaves<'_>, outcome: &Outcome) {
-    let (folder, owner) = (Printable(saves.folder), Owner(saves.party));
+    let (folder, owner) = (Printable(saves.folder), owner_of(saves.party));
     match outcome {
         Outcome::RestoreFault(RestoreCause::Damaged) => say(
             rt,
@@ -116,8 +111,8 @@ fn say_remedy(rt: &HostRuntime, saves: OwnSaves<'_>, outcome: &Outcome) {
             ),
         ),
         Outcome::RestoreFault(RestoreCause::WrongMatch) => {
-            if let Some(saved) = newest_save(rt, saves.folder, saves.party) {
-                say_other_match(rt, saves, &saved);
+            if let Some(found) = newest_save(rt, saves.folder, saves.party) {
+                say_other_match(rt, saves, found);
             }
         }
         Outcome::SavesSpent => {
@@ -140,9 +135,9 @@ fn say_remedy(rt: &HostRuntime, saves: OwnSaves<'_>, outcome: &Outcome) {
 }
 
 /// Reports that a folder has a save that isn't of this match, or isn't of this party.
-fn say_other_match(rt: &HostRuntime, saves: OwnSaves<'_>, saved: &Saved) {
-    let (folder, whose, asked) = (Printable(saves.folder), Owner(saved.party), saves.asked);
-    let (theirs, own) = (MatchWords::of_save(saved), asked.words());
+fn say_other_match(rt: &HostRuntime, saves: OwnSaves<'_>, found: FoundSave) {
+    let (folder, whose, theirs) = (Printable(saves.folder), owner_of(found.party), found.words);
+    let (asked, own) = (saves.asked.place(), saves.asked.words());
     let remedy = Remedy::of(saves, theirs);
     say(
         rt,
@@ -195,19 +190,32 @@ impl Display for Remedy {
     }
 }
 
+/// A save that was found in a folder: its number, its party and its match.
+#[derive(Clone, Copy)]
+struct FoundSave {
+    number: u32,
+    party: u8,
+    words: MatchWords,
+}
+
 /// Returns the latest save of a party in a folder, or `None` if neither file holds one.
-fn newest_save(rt: &HostRuntime, folder: &str, party: u8) -> Option<Saved> {
+fn newest_save(rt: &HostRuntime, folder: &str, party: u8) -> Option<FoundSave> {
     let zero = save_in(rt, folder, party, Slot::Zero);
     let one = save_in(rt, folder, party, Slot::One);
     match (zero, one) {
-        (Some(zero), Some(one)) if zero.save < one.save => Some(one),
+        (Some(zero), Some(one)) if zero.number < one.number => Some(one),
         (Some(zero), _) => Some(zero),
         (None, one) => one,
     }
 }
 
 /// Reads a party's file in a folder, if it holds a save.
-fn save_in(rt: &HostRuntime, folder: &str, party: u8, slot: Slot) -> Option<Saved> {
+fn save_in(rt: &HostRuntime, folder: &str, party: u8, slot: Slot) -> Option<FoundSave> {
     let path = slot_path(rt.alloc(), folder, party, slot).ok()?;
-    load(rt.alloc(), &read_saved(rt, path.as_str()).ok()?).ok()
+    let saved = load(rt.alloc(), &read_saved(rt, path.as_str()).ok()?).ok()?;
+    Some(FoundSave {
+        number: saved.save,
+        party: saved.party,
+        words: MatchWords::of(saved.log.id(), saved.log.length(), saved.log.rules()),
+    })
 }

@@ -99,15 +99,15 @@ impl Results {
     /// Returns the result of the next game that has ended, between players with these names, or
     /// `None` if no other game has. The record of a restarted party may hold less for a while.
     pub fn next(&mut self, record: &Record, names: &Names) -> Option<GameResult> {
-        for before in self.followed..record.len() {
+        for number in self.followed.saturating_add(1)..=record.len() {
             let before_it = self.standing;
-            let entry = record.entry(before.checked_add(1)?)?;
+            let entry = record.entry(number)?;
             if self.standing.apply(entry).is_err() {
                 // It is another record than before, and is followed from here on.
                 *self = Results::of(record);
                 return None;
             }
-            self.followed = self.followed.saturating_add(1);
+            self.followed = number;
             if let Some(result) = GameResult::between(&before_it, &self.standing, names) {
                 return Some(result);
             }

@@ -29,19 +29,21 @@ pub fn socket_of<'a>(
 ) -> Result<PartySocket<'a, HostRuntime>, Ending> {
     match PartySocket::bind(rt, rt, port, party, keys, failures) {
         Ok(socket) => Ok(socket),
-        Err(error) if error.kind() == ErrorKind::AddrInUse => {
-            let own = u32::from(port) + u32::from(party);
-            let least = own.saturating_sub(LAST_PARTY);
-            Err(failed(
-                rt,
-                format_args!(
-                    "port {own} is taken: is {} {RUNNING_OR} {least} or above? {END_IT}",
-                    holder_of(party)
-                ),
-            ))
-        }
-        Err(error) => Err(no_socket(rt, party, &error)),
+        Err(error) => Err(unbound(rt, port, party, &error)),
     }
+}
+
+/// Reports why a party of the match that has this port has no socket, and returns `Failed`.
+fn unbound(rt: &HostRuntime, port: u16, party: u8, error: &io::Error) -> Ending {
+    if error.kind() != ErrorKind::AddrInUse {
+        return no_socket(rt, party, error);
+    }
+    let own = u32::from(port) + u32::from(party);
+    let (holder, least) = (holder_of(party), own.saturating_sub(LAST_PARTY));
+    failed(
+        rt,
+        format_args!("port {own} is taken: is {holder} {RUNNING_OR} {least} or above? {END_IT}"),
+    )
 }
 
 /// Returns the party that has a port, as a message names it.

@@ -45,11 +45,7 @@ impl Mail {
 
     fn get(&mut self, party: u8) -> Option<ArrayVec<u8, 256>> {
         let datagram = self.boxes.get_mut(usize::from(party))?.pop_front()?;
-        let mut bytes = ArrayVec::new();
-        bytes
-            .try_extend_from_slice(datagram.bytes.bytes.as_slice())
-            .unwrap();
-        Some(bytes)
+        ArrayVec::try_from(datagram.bytes.bytes.as_slice()).ok()
     }
 }
 

@@ -56,6 +56,13 @@ fn restored<R: Files<File = File> + AllocGlobal>(
     }
 }
 
+/// Returns a socket at a port of 127.0.0.1, on which a turn waits for at most 200 milliseconds.
+fn socket_at<R: Net>(rt: &R, port: u16) -> io::Result<UdpSocket> {
+    let socket = UdpSocket::bind(rt, (Ipv4Addr::LOCALHOST, port))?;
+    socket.set_read_timeout(Some(Duration::from_millis(200)))?;
+    Ok(socket)
+}
+
 impl<'a, R: Net + Files<File = File> + RandomSource + AllocGlobal> RefereeHost<'a, R> {
     /// Continues the match that the folder has, or begins it, at a port of 127.0.0.1 (0: one that
     /// is free).
@@ -71,11 +78,9 @@ impl<'a, R: Net + Files<File = File> + RandomSource + AllocGlobal> RefereeHost<'
         length: u8,
         rules: Rules,
     ) -> Result<RefereeHost<'a, R>, HostFault> {
+        let socket = socket_at(rt, port)?;
         let mut files = SlotFiles::open(rt, folder, REFEREE)?;
         let core = restored(rt, &mut files, id, length, rules)?;
-        let socket = UdpSocket::bind(rt, (Ipv4Addr::LOCALHOST, port))?;
-        // A turn waits no longer than this.
-        socket.set_read_timeout(Some(Duration::from_millis(200)))?;
         Ok(RefereeHost {
             rt,
             files,
@@ -98,6 +103,11 @@ impl<'a, R: Net + Files<File = File> + RandomSource + AllocGlobal> RefereeHost<'
     /// # Errors
     /// Those of [`turn`](RefereeHost::turn).
     pub fn serve(mut self, turns: u64) -> Result<(), HostFault> {
+        self.take_turns(turns)
+    }
+
+    /// Takes `turns` turns, or as many as do not fail.
+    fn take_turns(&mut self, turns: u64) -> Result<(), HostFault> {
         for _ in 0..turns {
             self.turn()?;
         }

@@ -115,7 +115,7 @@ impl<'a, R: Files<File = File> + AllocGlobal> SlotFiles<'a, R> {
         file.write_all(text)?;
         let synced = self.sync(&file);
         if synced.is_err() {
-            self.is_lost = file.set_len(0).and_then(|()| file.sync_all()).is_err();
+            self.is_lost = file.set_len(0).is_err() || file.sync_all().is_err();
         }
         synced
     }

@@ -6,7 +6,7 @@ mod targets;
 use crate::attempts::done_at;
 use crate::batches::beside::{bytes_beside, headers_beside, keep_headers};
 use crate::batches::targets::{NameEndings, check_targets, target_of};
-use crate::inputs::{check_name, file_bytes, match_file_text, transcript_as_match_file};
+use crate::inputs::{check_name, file_bytes, match_file_text, shown, transcript_as_match_file};
 use bg_console::{Progress, allocated, check_out_file, check_out_folder, say, wrong_at};
 use bg_match::Rules;
 use bg_options::{BatchOptions, HeaderOptions};
@@ -42,14 +42,16 @@ impl<'a> Conversion<'a> {
         bytes: &[u8],
         has_headers: bool,
     ) -> Result<Vec<u8>, Ending> {
+        let shown = allocated(rt, shown(rt.alloc(), name))?;
+        let shown = shown.as_str();
         match self {
-            Conversion::Import(rules) => match_file_text(rt, name, *rules, bytes),
+            Conversion::Import(rules) => match_file_text(rt, shown, *rules, bytes),
             Conversion::Export(headers) if has_headers => {
                 let beside = bytes_beside(rt, name)?;
-                let headers = headers.or(headers_beside(rt, name, &beside)?);
-                transcript_as_match_file(rt, name, &headers, bytes)
+                let headers = headers.or(headers_beside(rt, shown, &beside)?);
+                transcript_as_match_file(rt, shown, &headers, bytes)
             }
-            Conversion::Export(headers) => transcript_as_match_file(rt, name, headers, bytes),
+            Conversion::Export(headers) => transcript_as_match_file(rt, shown, headers, bytes),
         }
     }
 }
@@ -95,7 +97,7 @@ fn convert(
     let bytes = file_bytes(rt, name)?;
     write_one(rt, conversion, batch, name, &bytes)?;
     if batch.has_headers && matches!(conversion, Conversion::Import(_)) {
-        keep_headers(rt, batch.folder, name, &bytes, batch.is_forced)?;
+        keep_headers(rt, batch, name, &bytes)?;
     }
     Ok(())
 }
@@ -109,9 +111,20 @@ fn write_one(
     bytes: &[u8],
 ) -> Result<(), Ending> {
     let text = conversion.text(rt, name, bytes, batch.has_headers)?;
-    let target = target_of(rt.alloc(), batch.folder, name, conversion.endings());
+    put_target(rt, batch, name, conversion.endings(), &text)
+}
+
+/// Writes the file of a batch that is named after this one, with the other ending.
+fn put_target(
+    rt: &HostRuntime,
+    batch: &BatchOptions<'_, '_>,
+    name: &str,
+    endings: NameEndings,
+    bytes: &[u8],
+) -> Result<(), Ending> {
+    let target = target_of(rt.alloc(), batch.folder, name, endings);
     let target = allocated(rt, target)?;
-    put_file(rt, target.as_str(), &text, batch.is_forced)
+    put_file(rt, target.as_str(), bytes, batch.is_forced)
 }
 
 /// Writes a file, whole. Refuses one that exists, unless it may be overwritten, and what is no file.

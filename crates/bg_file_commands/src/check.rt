@@ -24,30 +24,30 @@ pub fn run(
         ..
     } = options;
     let mut checker = Checker::begin(rt, columns, is_quiet, format, progress)?;
-    check_files(rt, &mut checker, options.files, options.is_recursive)?;
-    if let Some(list) = options.list {
-        check_list(rt, &mut checker, list)?;
-    }
+    check_files(rt, &mut checker, &options)?;
     Ok(checker.end())
 }
 
-/// Judges files, and those in folders if `is_recursive` is set.
+/// Judges the files that the options name, and then those of their list.
 fn check_files(
     rt: &HostRuntime,
     checker: &mut Checker<'_>,
-    files: &[&str],
-    is_recursive: bool,
+    options: &CheckOptions<'_, '_>,
 ) -> Result<(), Ending> {
-    for name in files {
-        if !is_folder(rt, name) {
-            checker.check(name)?;
-        } else if is_recursive {
-            checker.check_below(name)?;
+    for name in options.files {
+        let checked = if !is_folder(rt, name) {
+            checker.check(name)
+        } else if options.is_recursive {
+            checker.check_below(name)
         } else {
-            checker.pass_over_folder(name)?;
-        }
+            checker.pass_over_folder(name)
+        };
+        checked?;
     }
-    Ok(())
+    match options.list {
+        Some(list) => check_list(rt, checker, list),
+        None => Ok(()),
+    }
 }
 
 /// Judges the files that a list names.
@@ -64,11 +64,13 @@ fn check_list(rt: &HostRuntime, checker: &mut Checker<'_>, list: &str) -> Result
 /// Refuses an empty file name, and two uses of the standard input.
 fn check_names(rt: &HostRuntime, files: &[&str], list: Option<&str>) -> Result<(), Ending> {
     let mut inputs: usize = 0;
-    for name in files.iter().copied().chain(list) {
+    if let Some(list) = list {
+        check_name(rt, list)?;
+        inputs = usize::from(list == STANDARD_INPUT);
+    }
+    for name in files {
         check_name(rt, name)?;
-        if name == STANDARD_INPUT {
-            inputs = inputs.saturating_add(1);
-        }
+        inputs = inputs.saturating_add(usize::from(*name == STANDARD_INPUT));
     }
     if inputs > 1 {
         return Err(wrong(rt, "the standard input can be read only once"));

@@ -25,16 +25,27 @@ pub(crate) fn row_of(
 ) -> Result<(Vec<u8>, bool), AllocError> {
     let name = content(alloc, form, name)?;
     let (mut row, verdict) = check_row(alloc, form, name.as_str(), bytes)?;
-    if is_read_as_match_file(name.as_str(), bytes) {
-        form.put_unknown(&mut row, "\t")?;
-        put_headers(alloc, form, &mut row, &Headers::read(bytes))?;
-    } else {
-        let met = met_in(bytes, verdict);
-        put_optional(alloc, form, &mut row, "met", met)?;
-        form.put_unknown(&mut row, "\t\t\t\t\t\t")?;
-    }
-    put_end(form, &mut row)?;
+    put_rest(alloc, form, &mut row, name.as_str(), bytes, verdict)?;
     Ok((row, matches!(verdict, Verdict::Fine(_))))
+}
+
+/// Appends the fields behind `points`, and the end of the row.
+fn put_rest(
+    alloc: Global,
+    form: RowForm,
+    out: &mut Vec<u8>,
+    name: &str,
+    bytes: &[u8],
+    verdict: Verdict,
+) -> Result<(), AllocError> {
+    if is_read_as_match_file(name, bytes) {
+        form.put_unknown(out, "\t")?;
+        put_headers(alloc, form, out, &Headers::read(bytes))?;
+    } else {
+        put_optional(alloc, form, out, "met", met_in(bytes, verdict))?;
+        form.put_unknown(out, "\t\t\t\t\t\t")?;
+    }
+    put_end(form, out)
 }
 
 /// Returns the row of a file that can't be read.
@@ -47,17 +58,27 @@ pub(crate) fn unread_row(
     name: &str,
     error: &io::Error,
 ) -> Result<Vec<u8>, AllocError> {
-    let name = content(alloc, form, name)?;
-    let reason = format!(in alloc; "{error}")?;
     let mut row = Vec::new(alloc);
-    form.put_file(alloc, &mut row, name.as_str())?;
-    form.put_unknown(&mut row, "\t")?;
-    form.put_words(alloc, &mut row, "verdict", "unread")?;
-    form.put_unknown(&mut row, "\t")?;
-    put_text_of(alloc, form, &mut row, "reason", reason.as_str())?;
-    form.put_unknown(&mut row, "\t\t\t\t\t\t\t\t\t\t\t\t\t\t\t\t\t\t\t\t")?;
-    put_end(form, &mut row)?;
+    put_unread(alloc, form, &mut row, name, error)?;
     Ok(row)
+}
+
+/// Appends the row of a file that can't be read.
+fn put_unread(
+    alloc: Global,
+    form: RowForm,
+    out: &mut Vec<u8>,
+    name: &str,
+    error: &io::Error,
+) -> Result<(), AllocError> {
+    form.put_file(alloc, out, content(alloc, form, name)?.as_str())?;
+    form.put_unknown(out, "\t")?;
+    form.put_words(alloc, out, "verdict", "unread")?;
+    form.put_unknown(out, "\t")?;
+    let reason = format!(in alloc; "{error}")?;
+    put_text_of(alloc, form, out, "reason", reason.as_str())?;
+    form.put_unknown(out, "\t\t\t\t\t\t\t\t\t\t\t\t\t\t\t\t\t\t\t\t")?;
+    put_end(form, out)
 }
 
 /// Returns a text as a row has it: with its unprintable characters escaped where tabs stand between

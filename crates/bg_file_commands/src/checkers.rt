@@ -5,7 +5,7 @@ pub(crate) mod lists;
 use crate::attempts::gathered;
 use crate::check_rows::{HEADINGS, row_of, unread_row};
 use crate::inputs::{STANDARD_INPUT, read_file, read_input, shown};
-use crate::walks::files_below;
+use crate::walks::{Place, files_below};
 use bg_console::{Progress, allocated, print_text, say, say_of, say_why};
 use bg_options::CheckFormat;
 use bg_reports::{Ending, RowForm, Tally, check_text};
@@ -54,11 +54,12 @@ impl<'a> Checker<'a> {
 
     /// Judges the files in a folder and below it.
     pub(crate) fn check_below(&mut self, folder: &str) -> Result<(), Ending> {
-        for place in gathered(self.rt, files_below(self.rt, folder))? {
-            match place.fault {
-                Some(error) => self.tell(place.path.as_str(), Err(error))?,
-                None => self.check_file(place.path.as_str())?,
-            }
+        for Place { path, fault } in gathered(self.rt, files_below(self.rt, folder))? {
+            let bytes = match fault {
+                Some(error) => Err(error),
+                None => read_file(self.rt, path.as_str()),
+            };
+            self.tell(path.as_str(), bytes)?;
         }
         Ok(())
     }
@@ -66,8 +67,7 @@ impl<'a> Checker<'a> {
     /// Judges the file with this name, or the standard input.
     pub(crate) fn check(&mut self, name: &str) -> Result<(), Ending> {
         if name == STANDARD_INPUT {
-            let bytes = read_input(self.rt.alloc(), self.rt.reader());
-            return self.tell(name, bytes);
+            return self.tell(name, read_input(self.rt.alloc(), self.rt.reader()));
         }
         self.check_file(name)
     }
@@ -90,14 +90,15 @@ impl<'a> Checker<'a> {
 
     /// Prints the result of a file with these bytes, or reports why it could not be read.
     fn tell(&mut self, name: &str, bytes: io::Result<Vec<u8>>) -> Result<(), Ending> {
-        match bytes {
-            Ok(bytes) => self.judge(name, &bytes)?,
+        let told = match bytes {
+            Ok(bytes) => self.judge(name, &bytes),
             Err(error) => {
                 say_why(self.rt, name, " could not be read", &error);
                 self.pass_over();
-                self.print_unread(name, &error)?;
+                self.print_unread(name, &error)
             }
-        }
+        };
+        told?;
         let files = self.tally.files();
         self.progress
             .tell_of(self.rt, format_args!("{files} files are done"));
@@ -120,15 +121,17 @@ impl<'a> Checker<'a> {
             self.pass_over();
             return Ok(());
         };
-        if is_good {
-            self.tally.good = self.tally.good.saturating_add(1);
-            if self.is_quiet {
-                return Ok(());
-            }
+        let number = if is_good {
+            &mut self.tally.good
         } else {
-            self.tally.refused = self.tally.refused.saturating_add(1);
+            &mut self.tally.refused
+        };
+        *number = number.saturating_add(1);
+        if is_good && self.is_quiet {
+            Ok(())
+        } else {
+            print_text(self.rt, &text)
         }
-        print_text(self.rt, &text)
     }
 
     /// Returns the result of a file with this name, and whether it is good.

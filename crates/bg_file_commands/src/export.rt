@@ -2,7 +2,8 @@
 
 use crate::batches::{Conversion, convert_all};
 use crate::inputs::{TRANSCRIPT, standard_input, transcript_as_match_file};
-use bg_console::{Progress, print_text, wrong};
+use crate::outputs::print_told;
+use bg_console::{Progress, wrong};
 use bg_options::{ExportOptions, HeaderOptions};
 use bg_reports::Ending;
 
@@ -19,8 +20,7 @@ pub fn run(
     }
     let bytes = standard_input(rt)?;
     let text = transcript_as_match_file(rt, TRANSCRIPT, &options.headers, &bytes)?;
-    print_text(rt, &text)?;
-    Ok(Ending::Told)
+    print_told(rt, &text)
 }
 
 /// Refuses a name of X that begins with a semicolon, as the line that it heads would be a comment.

@@ -1,10 +1,28 @@
 //! Files that keep what stands above a match, beside its transcript.
 
+use crate::header_texts::put_headers;
+use crate::headers::Headers;
+use bg_console::{allocated, say};
 use bg_match::Number;
 use bg_options::HeaderOptions;
-use bg_system::Name;
+use bg_reports::Ending;
+use bg_system::{Name, Printable};
 use bg_text::split_line;
 use std::str;
+
+/// Returns the lines of the file that keeps what a match file with these bytes says above its
+/// match; none where it says nothing. Reports the first text that is malformed, behind the name of
+/// the match file if it has one.
+pub(crate) fn header_lines(rt: &HostRuntime, name: &str, bytes: &[u8]) -> Result<Vec<u8>, Ending> {
+    let headers = Headers::read(bytes);
+    if let Some(fault) = headers.fault {
+        let (name, colon) = (Printable(name), if name.is_empty() { "" } else { ": " });
+        say(rt, format_args!("{name}{colon}{fault}: it is left out"));
+    }
+    let mut text = Vec::new(rt.alloc());
+    allocated(rt, put_headers(&mut text, &headers.texts))?;
+    Ok(text)
+}
 
 /// Reads the lines of a file that `import` wrote. Of two for one thing the last counts.
 ///

@@ -1,5 +1,6 @@
 //! The headers of a match file: the players, and when and where they met.
 
+use crate::texts::put_texts;
 use bg_options::HeaderOptions;
 use bg_text::put_text;
 use std::alloc::{AllocError, Global};
@@ -30,9 +31,7 @@ fn put_lines(
 ) -> Result<(), AllocError> {
     for (before, text) in lines {
         if let Some(text) = text {
-            put_text(out, before)?;
-            put_text(out, text)?;
-            put_text(out, behind)?;
+            put_texts(out, &[before, text, behind])?;
         }
     }
     Ok(())
@@ -47,16 +46,17 @@ pub(crate) fn put_with_headers(
 ) -> Result<(), AllocError> {
     put_above(out, headers)?;
     for line in text.lines() {
-        match line
-            .strip_prefix(" X : ")
-            .and_then(|scores| scores.split_once("O : "))
-        {
+        match scores_in(line) {
             Some((x, o)) => put_scores(out, headers, x.trim_end(), o)?,
-            None => put_text(out, line)?,
+            None => put_texts(out, &[line, "\n"])?,
         }
-        put_text(out, "\n")?;
     }
     Ok(())
+}
+
+/// Returns the scores of X and of O in a line, if it has them.
+fn scores_in(line: &str) -> Option<(&str, &str)> {
+    line.strip_prefix(" X : ")?.split_once("O : ")
 }
 
 /// Appends the headers that stand above a match file.
@@ -78,21 +78,12 @@ fn put_scores(
     x: &str,
     o: &str,
 ) -> Result<(), AllocError> {
-    let start = out.len();
-    put_text(out, " ")?;
-    put_score(out, headers.x.unwrap_or("X"), x)?;
-    put_text(out, " ")?;
-    for _ in out.len().saturating_sub(start)..RIGHT_COLUMN {
+    let right = out.len().saturating_add(RIGHT_COLUMN);
+    put_texts(out, &[" ", headers.x.unwrap_or("X"), " : ", x, " "])?;
+    for _ in out.len()..right {
         put_text(out, " ")?;
     }
-    put_score(out, headers.o.unwrap_or("O"), o)
-}
-
-/// Appends the name and the score of a player.
-fn put_score(out: &mut Vec<u8>, name: &str, score: &str) -> Result<(), AllocError> {
-    put_text(out, name)?;
-    put_text(out, " : ")?;
-    put_text(out, score)
+    put_texts(out, &[headers.o.unwrap_or("O"), " : ", o, "\n"])
 }
 
 /// Returns event, place and date, as far as they are there, with commas between them.

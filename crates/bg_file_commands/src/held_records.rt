@@ -32,6 +32,25 @@ impl<'a> Held<'a> {
         }
     }
 
+    /// Reads the transcript with this name as a source.
+    pub(crate) fn of_transcript(
+        rt: &HostRuntime,
+        file: MatchFile,
+        name: &'a str,
+    ) -> Result<Held<'a>, Ending> {
+        check_name(rt, name)?;
+        let bytes = if name == STANDARD_INPUT {
+            standard_input(rt)?
+        } else {
+            file_bytes(rt, name)?
+        };
+        let record = record_in(rt, name, file.id, &bytes)?;
+        Ok(Held {
+            name,
+            saved: saved_of(record),
+        })
+    }
+
     /// Becomes the other one where that holds more. Ends with `WrongArguments` where an entry
     /// differs, or they are of different matches.
     pub(crate) fn take(&mut self, rt: &HostRuntime, other: Held<'a>) -> Result<(), Ending> {
@@ -61,7 +80,7 @@ fn differ(rt: &HostRuntime, one: &str, two: &str, number: Number) -> Ending {
 }
 
 /// Returns a record as the referee's first save.
-pub(crate) fn saved_of(log: Record) -> Saved {
+fn saved_of(log: Record) -> Saved {
     Saved {
         party: REFEREE,
         save: 1,
@@ -141,19 +160,4 @@ fn check_seat(rt: &HostRuntime, folder: &str, player: Player) -> Result<(), Endi
 /// Returns whether a party's file in a folder has a byte.
 fn has_saved(rt: &HostRuntime, folder: &str, party: u8, slot: Slot) -> Result<bool, Ending> {
     Ok(!slot_of(rt, folder, party, slot)?.is_empty())
-}
-
-/// Reads the transcript with this name as a record of the match.
-pub(crate) fn transcript_of(
-    rt: &HostRuntime,
-    file: MatchFile,
-    name: &str,
-) -> Result<Record, Ending> {
-    check_name(rt, name)?;
-    let bytes = if name == STANDARD_INPUT {
-        standard_input(rt)?
-    } else {
-        file_bytes(rt, name)?
-    };
-    record_in(rt, name, file.id, &bytes)
 }

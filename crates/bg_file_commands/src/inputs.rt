@@ -69,8 +69,8 @@ pub(crate) fn read_record(rt: &HostRuntime) -> Result<Record, Ending> {
     record_in(rt, TRANSCRIPT, NO_NUMBER, &bytes)
 }
 
-/// Returns the record of a transcript with this name, of the match with this number. Reports why
-/// where it has none.
+/// Returns the record of a transcript with this name, as it is printed, of the match with this
+/// number. Reports why where it has none.
 pub(crate) fn record_in(
     rt: &HostRuntime,
     name: &str,
@@ -90,8 +90,8 @@ pub(crate) fn record_in(
     }
 }
 
-/// Returns the transcript of a match file with this name, under these rules. Reports why where it
-/// has none.
+/// Returns the transcript of a match file with this name, as it is printed, under these rules.
+/// Reports why where it has none.
 pub(crate) fn match_file_text(
     rt: &HostRuntime,
     name: &str,
@@ -101,8 +101,7 @@ pub(crate) fn match_file_text(
     match import_mat(rt.alloc(), NO_NUMBER, rules, bytes) {
         Ok(imported) => allocated(rt, transcript_text(rt.alloc(), &imported.record)),
         Err(fault) => {
-            let name = allocated(rt, shown(rt.alloc(), name))?;
-            let said = said_of_import_fault(rt.alloc(), name.as_str(), bytes, fault, None);
+            let said = said_of_import_fault(rt.alloc(), name, bytes, fault, None);
             let ending = refused(rt, said);
             if bytes.starts_with(b"length ") {
                 say(rt, IS_TRANSCRIPT);
@@ -112,20 +111,31 @@ pub(crate) fn match_file_text(
     }
 }
 
-/// Returns the match file of a transcript with this name, with these headers. Reports why where it
-/// has none.
+/// Returns the match file of a transcript with this name, as it is printed, with these headers.
+/// Reports why where it has none.
 pub(crate) fn transcript_as_match_file(
     rt: &HostRuntime,
     name: &str,
     headers: &HeaderOptions<'_>,
     bytes: &[u8],
 ) -> Result<Vec<u8>, Ending> {
-    let shown = allocated(rt, shown(rt.alloc(), name))?;
-    let record = record_in(rt, shown.as_str(), NO_NUMBER, bytes)?;
-    let plain = allocated(rt, export_mat(rt.alloc(), &record))?;
-    let mut text = Vec::new(rt.alloc());
-    let plain = str::from_utf8(&plain).unwrap_or_default();
-    allocated(rt, put_with_headers(&mut text, headers, plain))?;
+    let record = record_in(rt, name, NO_NUMBER, bytes)?;
+    allocated(rt, match_file_of(rt.alloc(), &record, headers))
+}
+
+/// Returns the match file of a record, with these headers.
+fn match_file_of(
+    alloc: Global,
+    record: &Record,
+    headers: &HeaderOptions<'_>,
+) -> Result<Vec<u8>, AllocError> {
+    let plain = export_mat(alloc, record)?;
+    let mut text = Vec::new(alloc);
+    put_with_headers(
+        &mut text,
+        headers,
+        str::from_utf8(&plain).unwrap_or_default(),
+    )?;
     Ok(text)
 }
 

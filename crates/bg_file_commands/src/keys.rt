@@ -17,12 +17,21 @@ pub fn run(rt: &HostRuntime, folder: &str) -> Result<Ending, Ending> {
     )?;
     let _lock = lock_of(rt, folder)?;
     tell_if_open(rt, folder);
-    let path = allocated(rt, path_in(rt.alloc(), folder, "match"))?;
-    let file = match_of(rt, path.as_str())?;
-    let keys = keys_for(rt, folder, &file)?;
-    write_key_files(rt, folder, &keys)?;
+    make_key_files(rt, folder)?;
     tell_key_files(rt, folder)?;
     Ok(Ending::Served)
+}
+
+/// Makes the key files of the match in this folder.
+fn make_key_files(rt: &HostRuntime, folder: &str) -> Result<(), Ending> {
+    let file = match_in(rt, folder)?;
+    write_key_files(rt, folder, &keys_for(rt, folder, &file)?)
+}
+
+/// Reads the match file in a folder.
+fn match_in(rt: &HostRuntime, folder: &str) -> Result<NamedMatch, Ending> {
+    let path = allocated(rt, path_in(rt.alloc(), folder, "match"))?;
+    match_of(rt, path.as_str())
 }
 
 /// Returns the keys of the folder, from its secret or its key files; new ones where it has none.

@@ -20,7 +20,6 @@ use bg_console::{
 };
 use bg_options::{ListFormat, ListOptions};
 use bg_reports::{Ending, Found};
-use std::alloc::{AllocError, Global};
 use std::io;
 
 /// Lists the matches in the folders that the options name, and below them.
@@ -52,38 +51,42 @@ fn list(
     locks: &Locks,
     lines: &mut Vec<u8>,
 ) -> Result<Soundness, Ending> {
-    let mut places = gathered(rt, matches_below(rt, folder))?;
-    places.retain(|place| !matches!(place.finding, Finding::WatchKey));
-    if places.is_empty() {
+    let mut worst = Soundness::Sound;
+    let mut has_match = false;
+    for place in gathered(rt, matches_below(rt, folder))? {
+        if !matches!(place.finding, Finding::WatchKey) {
+            worst = worst.or(put_match(rt, format, place, locks, lines)?);
+            has_match = true;
+        }
+    }
+    if !has_match {
         say_of(rt, folder, NO_MATCH);
     }
-    let mut worst = Soundness::Sound;
-    for place in places {
-        let listed = gathered(rt, listing_of(rt, place, locks))?;
-        worst = worst.or(listed.held.soundness);
-        allocated(rt, put_line(rt.alloc(), format, lines, &listed))?;
-    }
     Ok(worst)
+}
+
+/// Appends the line of a match that was found. Returns how sound its files are.
+fn put_match(
+    rt: &HostRuntime,
+    format: ListFormat,
+    place: MatchBelow,
+    locks: &Locks,
+    lines: &mut Vec<u8>,
+) -> Result<Soundness, Ending> {
+    let listed = gathered(rt, listing_of(rt, place, locks))?;
+    let put = match format {
+        ListFormat::Text => put_row(rt.alloc(), lines, &listed),
+        ListFormat::Json => put_object(rt.alloc(), lines, &listed),
+    };
+    allocated(rt, put)?;
+    Ok(listed.held.soundness)
 }
 
 /// Returns the listing of a folder that was found.
 fn listing_of(rt: &HostRuntime, place: MatchBelow, locks: &Locks) -> io::Result<Listed> {
     match place.finding {
-        Finding::Unread(fault) => Listed::unread(rt.alloc(), place.path, fault),
+        Finding::Unread(fault) => Listed::unread(rt.alloc(), place.path, "", fault),
         _ => examine(rt, place.path, locks),
-    }
-}
-
-/// Appends the line of a listing.
-fn put_line(
-    alloc: Global,
-    format: ListFormat,
-    lines: &mut Vec<u8>,
-    listed: &Listed,
-) -> Result<(), AllocError> {
-    match format {
-        ListFormat::Text => put_row(alloc, lines, listed),
-        ListFormat::Json => put_object(alloc, lines, listed),
     }
 }
 

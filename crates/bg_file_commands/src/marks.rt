@@ -1,6 +1,7 @@
 //! Marks that other programs write in lines, and no line of a transcript has.
 
 use bg_match::Number;
+use bg_text::split_line;
 use std::io;
 use std::io::Read;
 
@@ -119,16 +120,35 @@ impl<R> Noting<R> {
         }
     }
 
-    /// Notes a byte.
-    fn note(&mut self, byte: u8) {
-        if byte == b'\n' {
-            return self.end_line();
+    /// Notes the next bytes, up to the first line with a mark.
+    fn note(&mut self, bytes: &[u8]) {
+        let mut rest = bytes;
+        for _ in 0..bytes.len() {
+            let Some((line, behind)) = split_line(rest) else {
+                break;
+            };
+            self.go_on(line);
+            if line.len() < rest.len() {
+                self.end_line();
+            }
+            if self.found.is_some() {
+                break;
+            }
+            rest = behind;
         }
-        if self.count < 3 {
-            self.front[self.count] = byte;
-            self.count += 1;
+    }
+
+    /// Notes bytes of the line that is read.
+    fn go_on(&mut self, bytes: &[u8]) {
+        for byte in bytes.iter().take(3) {
+            if self.count < 3 {
+                self.front[self.count] = *byte;
+                self.count += 1;
+            }
         }
-        self.last = Some(byte);
+        if let Some(last) = bytes.last() {
+            self.last = Some(*last);
+        }
     }
 
     /// Notes the end of a line.
@@ -146,14 +166,12 @@ impl<R> Noting<R> {
 impl<R: Read> Read for Noting<R> {
     fn read(&mut self, buffer: &mut [u8]) -> io::Result<usize> {
         let count = self.reader.read(buffer)?;
-        for byte in &buffer[..count] {
-            if self.found.is_some() && self.kept >= HEAD_BYTES {
-                break;
-            }
+        let bytes = &buffer[..count];
+        for byte in bytes.iter().take(HEAD_BYTES) {
             self.keep(*byte);
-            if self.found.is_none() {
-                self.note(*byte);
-            }
+        }
+        if self.found.is_none() {
+            self.note(bytes);
         }
         Ok(count)
     }

@@ -132,8 +132,7 @@ pub(crate) fn tell_kept_keys(rt: &HostRuntime) -> Result<(), Ending> {
 /// Refuses a folder that has files of a match.
 fn check_unused(rt: &HostRuntime, folder: &str) -> Result<(), Ending> {
     for name in NAMES {
-        let path = allocated(rt, path_in(rt.alloc(), folder, name))?;
-        if fs::symlink_metadata(rt, path.as_str()).is_ok() {
+        if has(rt, folder, name)? {
             let shown = Printable(folder);
             return Err(wrong(
                 rt,
@@ -142,4 +141,10 @@ fn check_unused(rt: &HostRuntime, folder: &str) -> Result<(), Ending> {
         }
     }
     Ok(())
+}
+
+/// Returns whether a folder has something of this name.
+fn has(rt: &HostRuntime, folder: &str, name: &str) -> Result<bool, Ending> {
+    let path = allocated(rt, path_in(rt.alloc(), folder, name))?;
+    Ok(fs::symlink_metadata(rt, path.as_str()).is_ok())
 }

@@ -36,9 +36,8 @@ pub fn run(rt: &HostRuntime, options: NewOptions<'_>, called: &str) -> Result<En
     Ok(Ending::Served)
 }
 
-/// Makes the secrets first, and the match file last, so that where there is one the match is
-/// complete. The port is checked before the folder is made, so that nothing is left of a match
-/// whose port is refused.
+/// Makes the folder of a match. The port is checked before the folder is made, so that nothing is
+/// left of a match whose port is refused.
 fn make_match(
     rt: &HostRuntime,
     terms: Terms,
@@ -50,14 +49,25 @@ fn make_match(
         check_ports(rt, folder, port)?;
     }
     let _lock = begin_folder(rt, folder)?;
+    fill(rt, terms, port, names, folder)
+}
+
+/// Makes the secrets of a match first, and its match file last, so that where there is one the
+/// match is complete.
+fn fill(
+    rt: &HostRuntime,
+    terms: Terms,
+    port: u16,
+    names: Names,
+    folder: &str,
+) -> Result<(MatchFile, Digest), Ending> {
     check_ports(rt, folder, port)?;
     let id = random_number(rt)?;
     let digest = make_secret_of_dice(rt, folder)?;
     make_secret_of_keys(rt, folder)?;
     let table = MatchFile { id, terms, port };
     let file = NamedMatch { table, names };
-    let keys = derived_keys(rt, folder, &file)?;
-    end_folder(rt, folder, &file, &keys)?;
+    end_folder(rt, folder, &file, &derived_keys(rt, folder, &file)?)?;
     Ok((table, digest))
 }
 

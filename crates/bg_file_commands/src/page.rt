@@ -2,10 +2,10 @@
 
 use crate::header_texts::occasion_of;
 use crate::inputs::read_record;
-use bg_console::{allocated, page_words, print_text, table_of, title_of};
-use bg_match::Record;
+use crate::outputs::print_made;
+use bg_console::{allocated, page_words, table_of, title_of};
 use bg_options::{HeaderOptions, PageOptions};
-use bg_picture::{Numbering, PageWords, page_text};
+use bg_picture::page_text;
 use bg_reports::Ending;
 use bg_system::{Name, Names};
 use std::alloc::{AllocError, Global};
@@ -19,19 +19,10 @@ pub fn run(rt: &HostRuntime, options: PageOptions<'_>) -> Result<Ending, Ending>
     let title = title_in(rt, &options, &names)?;
     let words = page_words(title.as_str(), &names);
     let record = read_record(rt)?;
-    print_page(rt, &record, words, options.numbering)?;
-    Ok(Ending::Told)
-}
-
-/// Prints the page of a record.
-fn print_page(
-    rt: &HostRuntime,
-    record: &Record,
-    words: PageWords<'_>,
-    numbering: Numbering,
-) -> Result<(), Ending> {
-    let text = allocated(rt, page_text(rt.alloc(), record, words, numbering, 0))?;
-    print_text(rt, &text)
+    print_made(
+        rt,
+        page_text(rt.alloc(), &record, words, options.numbering, 0),
+    )
 }
 
 /// Returns the names of X and of O: those of the options, or else those of the file that they name.

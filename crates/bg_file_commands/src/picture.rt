@@ -2,7 +2,7 @@
 
 use crate::header_texts::occasion_of;
 use crate::inputs::read_record;
-use bg_console::{allocated, print_text};
+use crate::outputs::print_made;
 use bg_match::Standing;
 use bg_options::PictureOptions;
 use bg_picture::{PictureLabels, labelled_picture_text, picture_text};
@@ -13,9 +13,7 @@ use std::alloc::{AllocError, Global};
 /// names and the occasion that the options give below it.
 pub fn run(rt: &HostRuntime, options: PictureOptions<'_>) -> Result<Ending, Ending> {
     let standing = read_record(rt)?.standing();
-    let text = allocated(rt, picture_of(rt.alloc(), &standing, &options))?;
-    print_text(rt, &text)?;
-    Ok(Ending::Told)
+    print_made(rt, picture_of(rt.alloc(), &standing, &options))
 }
 
 /// Returns the picture of a standing.

@@ -1,14 +1,15 @@
 //! The commands by which a new match is played, as a shell reads them.
 
-use bg_board::Player;
+use crate::texts::put_texts;
 use bg_console::{allocated, print_text, without_slashes};
 use bg_reports::Ending;
 use bg_system::name_of_key_file;
 use bg_text::put_text;
-use bg_wire::{FIRST_WATCHER, party_of};
+use bg_wire::{FIRST_WATCHER, SEAT_OF_O, SEAT_OF_X};
 use std::alloc::{AllocError, Global};
 use std::fmt;
 use std::fmt::{Display, Formatter, Write};
+use unicode_width::UnicodeWidthStr;
 
 /// Number of columns of a line, at most, where a command has room for it.
 const COLUMNS: usize = 80;
@@ -17,6 +18,10 @@ const COLUMNS: usize = 80;
 const INDENT: &str = "    ";
 
 const BROKEN: &str = " \\\n        ";
+
+/// What is between the parts of a command that is not laid out yet. No name that a shell reads has
+/// it, since it can't be printed.
+const BETWEEN: char = '\t';
 
 /// Prints the commands by which the match in a folder is played by a program that is called by this
 /// name. Each seat has a folder beside it.
@@ -27,55 +32,35 @@ pub(crate) fn tell_commands(rt: &HostRuntime, called: &str, folder: &str) -> Res
 
 /// Returns the text of the commands.
 fn commands_text(alloc: Global, called: &str, folder: &str) -> Result<Vec<u8>, AllocError> {
+    let commands = plain_commands(alloc, called, folder)?;
     let mut text = Vec::new(alloc);
-    put_text(&mut text, "then run, each in a terminal of its own:\n")?;
-    put_referee(alloc, &mut text, called, folder)?;
-    put_seat(alloc, &mut text, called, folder, Player::X)?;
-    put_seat(alloc, &mut text, called, folder, Player::O)?;
-    put_watcher(alloc, &mut text, called, folder)?;
+    put_commands(&mut text, commands.as_str())?;
     Ok(text)
 }
 
-/// Appends the command of the referee.
-fn put_referee(
-    alloc: Global,
-    text: &mut Vec<u8>,
-    called: &str,
-    folder: &str,
-) -> Result<(), AllocError> {
-    let referee = format!(in alloc; "{} referee", ShellWord(called))?;
-    let own = format!(in alloc; "--dir {}", ShellWord(without_slashes(folder)))?;
-    put_command(text, referee.as_str(), own.as_str())
-}
-
-/// Appends the command of a player's seat.
-fn put_seat(
-    alloc: Global,
-    text: &mut Vec<u8>,
-    called: &str,
-    folder: &str,
-    player: Player,
-) -> Result<(), AllocError> {
-    let letter = if player == Player::X { "x" } else { "o" };
+/// Returns the commands of the referee, of both seats and of a watcher, a line for each.
+fn plain_commands(alloc: Global, called: &str, folder: &str) -> Result<String, AllocError> {
+    let (x, o) = (name_of_key_file(SEAT_OF_X), name_of_key_file(SEAT_OF_O));
+    let watchers = name_of_key_file(FIRST_WATCHER);
     let joint = joint_of(folder);
-    let word = ShellWord(without_slashes(folder));
-    let name = name_of_key_file(party_of(player));
-    let play = format!(in alloc; "{} play --match {word}/{name}", ShellWord(called))?;
-    let own = format!(in alloc; "--dir {word}{joint}{letter}")?;
-    put_command(text, play.as_str(), own.as_str())
+    let (called, folder) = (ShellWord(called), ShellWord(without_slashes(folder)));
+    format!(in alloc;
+        "{called} referee\t--dir {folder}\n\
+        {called} play --match {folder}/{x}\t--dir {folder}{joint}x\n\
+        {called} play --match {folder}/{o}\t--dir {folder}{joint}o\n\
+        {called} watch\t--match {folder}/{watchers}\n"
+    )
 }
 
-/// Appends the command of a watcher.
-fn put_watcher(
-    alloc: Global,
-    text: &mut Vec<u8>,
-    called: &str,
-    folder: &str,
-) -> Result<(), AllocError> {
-    let watch = format!(in alloc; "{} watch", ShellWord(called))?;
-    let name = name_of_key_file(FIRST_WATCHER);
-    let watched = format!(in alloc; "--match {}/{name}", ShellWord(without_slashes(folder)))?;
-    put_command(text, watch.as_str(), watched.as_str())
+/// Appends these commands, laid out, below their heading.
+fn put_commands(text: &mut Vec<u8>, commands: &str) -> Result<(), AllocError> {
+    put_text(text, "then run, each in a terminal of its own:\n")?;
+    for command in commands.lines() {
+        if let Some((front, back)) = command.split_once(BETWEEN) {
+            put_command(text, front, back)?;
+        }
+    }
+    Ok(())
 }
 
 /// Returns what stands between the name of a match's folder and the letter of a seat in the name of
@@ -93,13 +78,10 @@ fn put_command(text: &mut Vec<u8>, front: &str, back: &str) -> Result<(), AllocE
     let columns = INDENT
         .len()
         .saturating_add(1)
-        .saturating_add(front.chars().count())
-        .saturating_add(back.chars().count());
-    put_text(text, INDENT)?;
-    put_text(text, front)?;
-    put_text(text, if columns <= COLUMNS { " " } else { BROKEN })?;
-    put_text(text, back)?;
-    put_text(text, "\n")
+        .saturating_add(front.width())
+        .saturating_add(back.width());
+    let between = if columns <= COLUMNS { " " } else { BROKEN };
+    put_texts(text, &[INDENT, front, between, back, "\n"])
 }
 
 /// A name as a shell reads it, between quotes where it needs some. A character that can't be
@@ -115,10 +97,10 @@ impl<'a> Display for ShellWord<'a> {
         f.write_str("'")?;
         for letter in self.0.chars() {
             match letter {
-                '\'' => f.write_str("'\\''")?,
-                '"' | '\\' => f.write_char(letter)?,
-                _ => write!(f, "{}", letter.escape_debug())?,
-            }
+                '\'' => f.write_str("'\\''"),
+                '"' | '\\' => f.write_char(letter),
+                _ => write!(f, "{}", letter.escape_debug()),
+            }?;
         }
         f.write_str("'")
     }

@@ -1,20 +1,20 @@
 //! The command that rebuilds a referee's folder from what others hold.
 
 use crate::attempts::done_at;
-use crate::held_records::{Held, saved_of, seat_of, transcript_of};
+use crate::held_records::{Held, seat_of};
 use crate::new_folders::{
     begin_folder, derived_keys, end_folder, make_secret_of_dice, make_secret_of_keys,
     remove_secret_of_keys, tell_dice, tell_kept_keys, tell_key_files,
 };
 use bg_board::Player;
 use bg_console::{
-    allocated, check_folder, key_files_in, lock_of, no_memory, say, table_of, wrong_at,
+    allocated, check_folder, key_files_in, lock_of, no_memory, say, say_of, table_of, wrong_at,
 };
 use bg_match::{Number, Record};
 use bg_options::RecoverOptions;
 use bg_reports::Ending;
 use bg_system::{Failures, FolderLock, KeyFiles, MatchFile, NamedMatch, PartyFiles, Printable};
-use bg_wire::{REFEREE, next_save};
+use bg_wire::{REFEREE, Slot, next_save};
 
 /// Makes the folder that the options name.
 pub fn run(rt: &HostRuntime, options: RecoverOptions<'_, '_>) -> Result<Ending, Ending> {
@@ -26,14 +26,26 @@ pub fn run(rt: &HostRuntime, options: RecoverOptions<'_, '_>) -> Result<Ending, 
         ));
     }
     let file = table_of(rt, options.match_path)?;
+    match options.keys {
+        Some(folder) => {
+            let kept = key_files_in(rt, folder, &file.table)?.named(&file.names);
+            rebuild(rt, &options, &file, Some(&kept))
+        }
+        None => rebuild(rt, &options, &file, None),
+    }
+}
+
+/// Makes the folder with the keys that are kept, if there are some.
+fn rebuild(
+    rt: &HostRuntime,
+    options: &RecoverOptions<'_, '_>,
+    file: &NamedMatch,
+    kept: Option<&KeyFiles>,
+) -> Result<Ending, Ending> {
     // The seats stay locked until the folder is made.
     let mut locks = Vec::new(rt.alloc());
-    let kept = match options.keys {
-        Some(folder) => Some(key_files_in(rt, folder, &file.table)?.named(&file.names)),
-        None => None,
-    };
-    let longest = longest_of(rt, file.table, &options, &mut locks)?;
-    make(rt, &file, options.folder, kept.as_ref(), &longest)?;
+    let longest = longest_of(rt, file.table, options, &mut locks)?;
+    make(rt, file, options.folder, kept, &longest)?;
     Ok(Ending::Served)
 }
 
@@ -60,8 +72,7 @@ fn take_all<'a>(
     take_seat(rt, table, Player::X, options.x, locks, longest)?;
     take_seat(rt, table, Player::O, options.o, locks, longest)?;
     for name in options.transcripts.iter().copied() {
-        let saved = saved_of(transcript_of(rt, table, name)?);
-        longest.take(rt, Held { name, saved })?;
+        longest.take(rt, Held::of_transcript(rt, table, name)?)?;
     }
     Ok(())
 }
@@ -108,8 +119,7 @@ fn make(
         }
         None => {
             make_secret_of_keys(rt, folder)?;
-            let keys = derived_keys(rt, folder, file)?;
-            fill(rt, file, folder, &keys, longest)?;
+            fill(rt, file, folder, &derived_keys(rt, folder, file)?, longest)?;
             tell_key_files(rt, folder)?;
         }
     }
@@ -133,27 +143,28 @@ fn fill(
 
 /// Writes the referee's first save, with this record, to the folder.
 fn save_first(rt: &HostRuntime, folder: &str, log: &Record) -> Result<(), Ending> {
-    let Ok((slot, _, text)) = next_save(rt.alloc(), 0, REFEREE, &None, log) else {
-        return Err(no_memory(rt));
-    };
+    match next_save(rt.alloc(), 0, REFEREE, &None, log) {
+        Ok((slot, _, text)) => write_slot(rt, folder, slot, &text),
+        Err(_) => Err(no_memory(rt)),
+    }
+}
+
+/// Writes a file of the referee to the folder.
+fn write_slot(rt: &HostRuntime, folder: &str, slot: Slot, text: &[u8]) -> Result<(), Ending> {
     let failures = Failures::new();
     let mut files = allocated(rt, PartyFiles::new(rt, folder, REFEREE, &failures))?;
-    let written = files.write(slot, &text);
+    let written = files.write(slot, text);
     done_at(rt, folder, "/party-0.1 could not be written", written)
 }
 
 /// Reports the entries that a new folder begins with.
 fn tell_made(rt: &HostRuntime, folder: &str, name: &str, entries: Number) {
-    let (shown, name) = (Printable(folder), Printable(name));
     if entries == 0 {
-        say(
-            rt,
-            format_args!("{shown} begins with no entry: none was found"),
-        );
-    } else {
-        say(
-            rt,
-            format_args!("{shown} begins with the {entries} entries of {name}"),
-        );
+        return say_of(rt, folder, " begins with no entry: none was found");
     }
+    let (shown, name) = (Printable(folder), Printable(name));
+    say(
+        rt,
+        format_args!("{shown} begins with the {entries} entries of {name}"),
+    );
 }

@@ -1,6 +1,7 @@
 //! The command that shows saved files.
 
 use crate::inputs::check_name;
+use crate::outputs::print_report;
 use crate::saved_files::{saved_bytes, slots_of};
 use bg_console::{allocated, check_folder, path_in, print_text, say, say_of, wrong_at};
 use bg_options::ShowOptions;
@@ -36,9 +37,7 @@ pub fn run(rt: &HostRuntime, options: ShowOptions<'_>) -> Result<Ending, Ending>
 /// Shows the two files of a party.
 fn show_files(rt: &HostRuntime, path0: &str, path1: &str) -> Result<Ending, Ending> {
     let slots = named_slots(rt, path0, path1)?;
-    let shown = show_text(rt.alloc(), &slots.zero, &slots.one);
-    let (text, loads) = allocated(rt, shown)?;
-    print_text(rt, &text)?;
+    let loads = print_report(rt, show_text(rt.alloc(), &slots.zero, &slots.one))?;
     if !loads {
         say_missing(rt, path0, path1);
     }
@@ -105,8 +104,7 @@ fn show_folder(rt: &HostRuntime, folder: &str) -> Result<Ending, Ending> {
     }
     check_folder(rt, folder, NO_FOLDER)?;
     let parties = parties_in(rt, folder)?;
-    let (text, loads) = allocated(rt, parties.report(rt.alloc()))?;
-    print_text(rt, &text)?;
+    let loads = print_report(rt, parties.report(rt.alloc()))?;
     Ok(Ending::Shown { loads })
 }
 

@@ -30,17 +30,23 @@ pub(crate) fn is_folder(rt: &HostRuntime, path: &str) -> bool {
 /// `OutOfMemory` alone.
 pub(crate) fn files_below(rt: &HostRuntime, folder: &str) -> io::Result<Vec<Place>> {
     let mut places = Vec::new(rt.alloc());
+    add_files(rt, folder, &mut places)?;
+    places.sort_by(|one: &Place, other: &Place| one.path.as_str().cmp(other.path.as_str()))?;
+    Ok(places)
+}
+
+/// Appends the files in a folder and below it, and the folders that can't be read.
+fn add_files(rt: &HostRuntime, folder: &str, places: &mut Vec<Place>) -> io::Result<()> {
     let mut level = Vec::new(rt.alloc());
     level.push(String::from_str(rt.alloc(), without_slashes(folder))?)?;
     for _ in 0..MOST_DEEP {
-        level = add_level(rt, &level, &mut places)?;
+        level = add_level(rt, &level, places)?;
     }
     for path in &level {
         let fault = io::Error::from(ErrorKind::FilesystemLoop);
-        add_unread(rt.alloc(), &mut places, path.as_str(), fault)?;
+        add_unread(rt.alloc(), places, path.as_str(), fault)?;
     }
-    places.sort_by(|one: &Place, other: &Place| one.path.as_str().cmp(other.path.as_str()))?;
-    Ok(places)
+    Ok(())
 }
 
 /// Appends the files in these folders, and those of them that can't be read. Returns the folders in

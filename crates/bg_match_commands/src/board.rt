@@ -59,14 +59,15 @@ fn keep<'a>(
 ) -> Result<(), Ending> {
     let mut is_new = true;
     for round in 0..u64::MAX {
-        if round % ROUNDS_OF_SEARCH == 0 && search.run(matches)? {
-            is_new = true;
+        if round % ROUNDS_OF_SEARCH == 0 {
+            is_new |= search.run(matches)?;
         }
         for one in matches.iter_mut() {
             one.go_on(rt);
         }
         if round % ROUNDS_OF_LOOK == 0 {
-            if look(rt, options, matches)? || is_new {
+            is_new |= look(rt, options, matches)?;
+            if is_new {
                 write_index(rt, options, matches)?;
             }
             is_new = false;

@@ -5,7 +5,7 @@ use bg_console::{
     Progress, allocated, check_folder, check_writable, failed_with, has_key_secret, key_files_of,
     lock_of, match_of, path_in, tell_if_open, waited, waiting_for, wrong,
 };
-use bg_match::{Number, Record};
+use bg_match::Number;
 use bg_options::RefereeOptions;
 use bg_processes::{
     Failures, FileKeeper, Going, Keyring, MatchFile, NamedMatch, Names, PartySocket, Printable,
@@ -15,6 +15,8 @@ use bg_reports::Ending;
 use bg_wire::REFEREE;
 use bg_world::Keeper;
 use std::time::Clock;
+
+type Referee<'a> = RefereeProcess<PartySocket<'a, HostRuntime>, FileKeeper<'a, HostRuntime>>;
 
 /// The message on what isn't a folder.
 const NO_FOLDER: &str = " is no folder: name the one that `bg_relay new` made";
@@ -51,19 +53,8 @@ pub fn run(
     } else {
         progress
     };
-    play(rt, folder, table, Names { x, o }, is_quiet, progress)
-}
-
-/// Logs that the referee of a match begins with this record, and returns its logbook.
-fn begun_logbook<'a>(
-    rt: &'a HostRuntime,
-    is_quiet: bool,
-    table: MatchFile,
-    names: Names,
-    record: &Record,
-) -> Logbook<'a> {
-    let file = NamedMatch { table, names };
-    Logbook::begin(rt, is_quiet, REFEREE, &file, record)
+    let names = Names { x, o };
+    play(rt, folder, &NamedMatch { table, names }, is_quiet, progress)
 }
 
 /// Reads the match file of a folder.
@@ -77,39 +68,41 @@ fn match_in(rt: &HostRuntime, folder: &str) -> Result<NamedMatch, Ending> {
 fn play(
     rt: &HostRuntime,
     folder: &str,
-    table: MatchFile,
-    names: Names,
+    file: &NamedMatch,
     is_quiet: bool,
     progress: Progress,
 ) -> Result<Ending, Ending> {
     let failures = Failures::new();
-    let key = match read_secret(rt, folder) {
-        Ok(key) => key,
+    let mut process = begin(rt, folder, &file.table, &failures)?;
+    let mut reporter = FailureReporter::new(rt, &failures, folder);
+    attend(
+        rt,
+        folder,
+        file,
+        &mut process,
+        &mut reporter,
+        is_quiet,
+        progress,
+    )
+}
+
+/// Begins the referee of the match in a folder, which has this match file. Its devices note their
+/// failures in `failures`.
+fn begin<'a>(
+    rt: &'a HostRuntime,
+    folder: &str,
+    table: &MatchFile,
+    failures: &'a Failures,
+) -> Result<Referee<'a>, Ending> {
+    let secret = match read_secret(rt, folder) {
+        Ok(secret) => secret,
         Err(error) => return Err(failed_with(rt, folder, NO_SECRET, &error, SECRET_REMEDY)),
     };
-    let keys = keys_of(rt, folder, &table)?;
-    let link = socket_of(rt, table.port, REFEREE, keys, &failures)?;
-    let (mut waiting, mut ticking) = waiting_for(rt, link.descriptor(), false)?;
-    let keeper = allocated(rt, FileKeeper::new(rt, folder, REFEREE, &failures))?;
-    let attempt = RefereeProcess::begin(rt.alloc(), table.id, table.terms, key, link, keeper);
-    let mut process = begun(rt, &failures, saves_of(folder, &table), attempt)?;
-    let Some(record) = process.held() else {
-        return Err(Ending::Failed);
-    };
-    let mut logbook = begun_logbook(rt, is_quiet, table, names, record);
-    let mut reporter = FailureReporter::new(rt, &failures, folder);
-    let ended = serve(
-        rt,
-        saves_of(folder, &table),
-        &mut process,
-        &mut waiting,
-        &mut ticking,
-        &mut reporter,
-        &mut logbook,
-        progress,
-    );
-    logbook.end(ended.is_ok());
-    ended
+    let keys = keys_of(rt, folder, table)?;
+    let link = socket_of(rt, table.port, REFEREE, keys, failures)?;
+    let keeper = allocated(rt, FileKeeper::new(rt, folder, REFEREE, failures))?;
+    let attempt = RefereeProcess::begin(rt.alloc(), table.id, table.terms, secret, link, keeper);
+    begun(rt, failures, saves_of(folder, table), attempt)
 }
 
 /// Returns the saves of the referee of a match in a folder.
@@ -140,8 +133,37 @@ fn keys_of(rt: &HostRuntime, folder: &str, file: &MatchFile) -> Result<Keyring, 
     }
 }
 
-/// Runs rounds until the match is over. Over any clock and keeper, as the check takes seconds for
-/// each call of a process over those of the system.
+/// Logs that the referee begins, runs it until the match is over, and logs that it ends. Over any
+/// clock and keeper, as the check takes seconds for each call of a process over those of the system.
+fn attend<C: Clock, K: Keeper>(
+    rt: &HostRuntime,
+    folder: &str,
+    file: &NamedMatch,
+    process: &mut RefereeProcess<PartySocket<'_, C>, K>,
+    reporter: &mut FailureReporter<'_, HostRuntime>,
+    is_quiet: bool,
+    progress: Progress,
+) -> Result<Ending, Ending> {
+    let Some(record) = process.held() else {
+        return Err(Ending::Failed);
+    };
+    let (mut waiting, mut ticking) = waiting_for(rt, process.link().descriptor(), false)?;
+    let mut logbook = Logbook::begin(rt, is_quiet, REFEREE, file, record);
+    let ended = serve(
+        rt,
+        saves_of(folder, &file.table),
+        process,
+        &mut waiting,
+        &mut ticking,
+        reporter,
+        &mut logbook,
+        progress,
+    );
+    logbook.end(ended.is_ok());
+    ended
+}
+
+/// Runs rounds until the match is over.
 fn serve<C: Clock, K: Keeper>(
     rt: &HostRuntime,
     saves: OwnSaves<'_>,

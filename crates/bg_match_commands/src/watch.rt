@@ -1,16 +1,18 @@
 //! The command that watches a match.
 
+mod kept_files;
 mod live_boards;
 mod screens;
 mod showing;
 
+use crate::watch::kept_files::KeptFiles;
 use crate::watch::live_boards::LiveBoard;
 use crate::watch::showing::{Lines, Showing};
 use crate::watchers::{NoWatcher, Watcher, begin_watcher};
 use bg_command_parts::{Audience, FailureReporter, Logbook, SilenceReporter, no_socket};
 use bg_console::{
-    Outputs, Published, Telling, Terminal, check_out_file, failed, key_file_of, page_words,
-    title_of, waited, waiting_for, wrong_at,
+    Outputs, Telling, Terminal, check_out_file, failed, key_file_of, page_words, title_of, waited,
+    waiting_for, wrong_at,
 };
 use bg_options::WatchOptions;
 use bg_processes::{Failures, Going, Liveness, MatchFile, Ticking, Waiting};
@@ -35,9 +37,12 @@ pub fn run(
     let path = options.match_path;
     let handed = key_file_of(rt, path, FIRST_WATCHER)?;
     let file = handed.named_match();
-    let title = title_of(rt, options.title, &file.names)?;
     let names = file.names;
-    let mut published = Published::new(Outputs {
+    let title = title_of(rt, options.title, &names)?;
+    let failures = Failures::new();
+    let (party, mut process) = begin(rt, path, &file.table, &handed.key, &failures)?;
+    let (mut waiting, mut ticking) = waiting_for(rt, process.link().descriptor(), false)?;
+    let mut files = KeptFiles::new(Outputs {
         board: options.board,
         transcript: options.transcript,
         page: options.page,
@@ -45,9 +50,6 @@ pub fn run(
         numbering: options.numbering,
         goes_on: options.goes_on,
     });
-    let failures = Failures::new();
-    let (table, key) = (&file.table, &handed.key);
-    let (party, mut process, mut waiting, mut ticking) = begin(rt, path, table, key, &failures)?;
     let drawn_on = terminal.filter(|terminal| terminal.is_drawn_on && !options.is_plain);
     // Log lines would tear the board, where both are at one terminal.
     let is_quiet = options.is_quiet || (is_watched && drawn_on.is_some());
@@ -75,7 +77,7 @@ pub fn run(
         &mut showing,
         &mut logbook,
         &mut silence,
-        &mut published,
+        &mut files,
         is_watched,
     );
     logbook.end(ended.is_ok());
@@ -116,23 +118,20 @@ fn check_outputs(
     Ok(())
 }
 
-/// Begins a watcher of the match of this key file, and returns its number too, its wait and its
-/// ticks.
+/// Begins a watcher of the match of this key file, and returns its number too.
 fn begin<'a>(
     rt: &'a HostRuntime,
     path: &str,
     table: &MatchFile,
     key: &Key,
     failures: &'a Failures,
-) -> Result<(u8, Watcher<'a>, Waiting, Ticking), Ending> {
-    let (party, process) = match begin_watcher(rt, path, table, key, failures) {
-        Ok(begun) => begun,
-        Err(NoWatcher::NoPort) => return Err(failed(rt, NO_PORT)),
-        Err(NoWatcher::NoSocket(party, error)) => return Err(no_socket(rt, party, &error)),
-        Err(NoWatcher::Reported(ending)) => return Err(ending),
-    };
-    let (waiting, ticking) = waiting_for(rt, process.link().descriptor(), false)?;
-    Ok((party, process, waiting, ticking))
+) -> Result<(u8, Watcher<'a>), Ending> {
+    match begin_watcher(rt, path, table, key, failures) {
+        Ok(begun) => Ok(begun),
+        Err(NoWatcher::NoPort) => Err(failed(rt, NO_PORT)),
+        Err(NoWatcher::NoSocket(party, error)) => Err(no_socket(rt, party, &error)),
+        Err(NoWatcher::Reported(ending)) => Err(ending),
+    }
 }
 
 /// Runs rounds until the match is over.
@@ -144,7 +143,7 @@ fn watch(
     showing: &mut Showing<'_>,
     logbook: &mut Logbook<'_>,
     silence: &mut SilenceReporter<'_>,
-    published: &mut Published<'_>,
+    files: &mut KeptFiles<'_>,
     is_watched: bool,
 ) -> Result<Ending, Ending> {
     let mut liveness = Liveness::new();
@@ -152,16 +151,18 @@ fn watch(
         let empty_reads = process.link().empty_reads();
         let (_, tick) = waited(rt, ticking.next_round(rt, waiting, empty_reads))?;
         let going = process.round(tick, showing);
-        let word = liveness.after_round(process.link(), tick);
-        let is_heard = process.link().heard() > 0;
-        silence.after_round(process.link(), &liveness);
+        let link = process.link();
+        let record = process.held();
+        let word = liveness.after_round(link, tick);
+        let is_heard = link.heard() > 0;
+        silence.after_round(link, &liveness);
         // A watcher at a terminal is told sooner whether the referee is heard.
-        logbook.after_round(process.link(), Some(process.held()), tick && !is_watched);
-        let news = showing.go_on(process.held(), word, is_heard)?;
-        published.after_round(rt, process.held(), news, tick, is_heard)?;
-        showing.note_files(published.is_failing());
+        logbook.after_round(link, Some(record), tick && !is_watched);
+        let news = showing.go_on(record, word, is_heard)?;
+        files.after_round(rt, record, news, tick, is_heard)?;
+        showing.note_files(files.are_failing());
         if going == Going::Over {
-            published.write(rt, process.held(), is_heard)?;
+            files.write(rt, record, is_heard)?;
             break;
         }
     }

@@ -72,7 +72,7 @@ pub fn run(
         unanswered: Unanswered::default(),
         opponent: Opponent::new(),
     };
-    table.play()
+    table.play(&mut rt.reader())
 }
 
 /// A person's seat, what they have typed, and what they have been shown.
@@ -114,8 +114,8 @@ struct Table<'a> {
 }
 
 impl<'a> Table<'a> {
-    fn play(&mut self) -> Result<Ending, Ending> {
-        let mut reader = self.rt.reader();
+    /// Plays until the match is over, or the player leaves. What they type comes from this reader.
+    fn play(&mut self, reader: &mut impl Read) -> Result<Ending, Ending> {
         for _ in 0..u64::MAX {
             let round = self.seat.next_round()?;
             self.join(round)?;
@@ -123,7 +123,7 @@ impl<'a> Table<'a> {
             if round.going == Going::Over {
                 return Ok(Ending::Served);
             }
-            let is_open = !round.input || self.hear(&mut reader)?;
+            let is_open = !round.input || self.hear(reader)?;
             if is_open && !self.is_seated() {
                 continue;
             }

@@ -69,8 +69,7 @@ impl<'a> Seat<'a> {
         let (ready, tick) = waited(self.rt, next)?;
         let claim = self.open_claim();
         let played = self.process.round(tick, &mut self.reporter);
-        self.reporter.check_files()?;
-        let going = self.unless_stopped(played)?;
+        let going = self.unless_failed(played)?;
         let link = self.process.link();
         let word = self.liveness.after_round(link, tick);
         self.silence.after_round(link, &self.liveness);
@@ -86,9 +85,15 @@ impl<'a> Seat<'a> {
     /// Saves at once what waits for a tick, where the process may end.
     pub(crate) fn save_now(&mut self) -> Result<(), Ending> {
         let saved = self.process.save_now(&mut self.reporter);
-        self.reporter.check_files()?;
-        self.unless_stopped(saved)?;
+        self.unless_failed(saved)?;
         Ok(())
+    }
+
+    /// Returns the result of a call of the process that may have saved. Reports why the seat can't
+    /// go on, if its files were given up or for another reason.
+    fn unless_failed<T: Drop>(&self, attempt: Result<T, Outcome>) -> Result<T, Ending> {
+        self.reporter.check_files()?;
+        self.unless_stopped(attempt)
     }
 
     /// Returns the result of a call of the process. Reports why the seat can't go on.
@@ -147,7 +152,7 @@ impl<'a> Seat<'a> {
 
     /// Returns whether the player is to act, and no claim waits for its answer.
     pub(crate) fn acts(&self) -> bool {
-        self.process.acts()
+        self.awaits(self.player) && self.open_claim().is_none()
     }
 
     /// Returns the socket to the other parties.

@@ -2,6 +2,8 @@
 # saves are 40 and 39. To be sourced.
 
 line='match 7 length 3 rules 1 port 4000'
+# an acute accent on the letter before it, as a character of its own
+accent=$'\xcc\x81'
 
 # table FOLDER MATCH-FILE (a referee's folder with that match, and with saves of match 7, all of one time)
 table() {
@@ -67,6 +69,22 @@ END
     check_lines "matches with names" 0 list names
     check "names for programs" 0 '"port":4000,"names":{"x":"Anna","o":"\"\\Otto"},"open":' "" list --format json names/both
     check "one name for programs" 0 '"port":4000,"names":{"o":"Otto"},"open":' "" list --format json names/one
+}
+
+# try_wide_names (columns are those of a terminal: an accent of its own takes none, and a Chinese character two)
+try_wide_names() {
+    table wide/größe "$line
+name-x Zoé
+name-o Rene$accent"
+    table wide/letters "$line
+name-x 李小龍
+name-o 王"
+    cat > "$work/expected" << END
+FOLDER        MATCH  PLAYERS            SCORE     GAME  NEXT       ENTRIES  LAST SAVE             OPEN  FILES
+wide/größe    7      Zoé against Rene$accent   0-0 of 3  1     X to roll  20       2024-02-29T23:59:59Z  -     saved
+wide/letters  7      李小龍 against 王  0-0 of 3  1     X to roll  20       2024-02-29T23:59:59Z  -     saved
+END
+    check_lines "names with accents, and with wide letters" 0 list wide
 }
 
 # make_bad_folders (folders of each of which something is wrong)
@@ -147,6 +165,7 @@ try_lists() {
     try_found_matches
     try_listed_json
     try_listed_names
+    try_wide_names
     make_bad_folders
     try_bad_folders
     try_unread_folders

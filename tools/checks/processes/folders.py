@@ -55,6 +55,15 @@ def check_folders_of_seats(top):
     for command in seats:
         told = f"bg_relay: {top}/blocked/party-1.0 could not be read: "
         check(f"{command[0]} names the file that it can't read as it begins", 1, "", told, *command, f"{top}/blocked")
+    # (a link to itself is nothing that the system can look at, for the administrator too)
+    for name in ("match", "party-1.0", "party-2.1"):
+        os.mkdir(f"{top}/looped-{name}")
+        os.symlink(name, f"{top}/looped-{name}/{name}")
+        for command in seats:
+            told = f"bg_relay: {top}/looped-{name}/{name} could not be read: "
+            check(f"{command[0]} where {name} can't be looked at", 1, "", told, *command, f"{top}/looped-{name}")
+        left = os.listdir(f"{top}/looped-{name}")
+        right(left == [name], f"a seat that can't look at {name} left {left}")
 
 
 def check_told_beside(top):

@@ -50,6 +50,21 @@ def check_kept_files(room):
     watcher.kill()
     said = [line for line in (said + watcher.communicate()[1].decode()).splitlines() if "no word" not in line]
     right(len(said) == 1 and "could not be written: " in said[0], f"a watcher that goes on said {said}")
+    check_each_named(top, told)
+
+
+def check_each_named(top, told):
+    """Of two files that can't be written, a watcher that goes on names each once, and writes each as soon as it can."""
+    kept = {"--board": f"{top}/no-board/board", "--page": f"{top}/no-page/page"}
+    watcher = start("watch", *told, *(word for pair in kept.items() for word in pair), "--go-on", "--quiet")
+    _, said = says(watcher, "could not be written: ", len(kept))
+    for path in reversed(kept.values()):
+        os.mkdir(os.path.dirname(path))
+        right(comes(lambda at=path: text_of(at)), f"{path} was not written when it could be")
+    watcher.kill()
+    said = [line for line in (said + watcher.communicate()[1].decode()).splitlines() if "no word" not in line]
+    named = [line.partition(" could not be written: ")[0] for line in said]
+    right(named == [f"bg_relay: {path}" for path in kept.values()], f"a watcher whose files can't be written said {said}")
 
 
 def check_progress(room):

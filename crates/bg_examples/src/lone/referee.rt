@@ -4,9 +4,10 @@ use crate::own_devices::FileKeeper;
 use crate::post_link::PostLink;
 use bg_match::{LengthFault, Number, Record, Terms};
 use bg_wire::REFEREE;
-use bg_world::{Outcome, RefereeNode};
+use bg_world::{Keeper, Outcome, RefereeNode};
 use rand_chacha::ChaCha20Rng;
 use rand_core::utils::NextWord;
+use std::alloc::Global;
 use std::fs::File;
 use std::io;
 use std::rt::Files;
@@ -63,29 +64,19 @@ impl<'a, R: Files<File = File> + AllocGlobal> LoneReferee<'a, R> {
         words: ChaCha20Rng,
     ) -> Result<LoneReferee<'a, R>, ProcessFault> {
         let mut keeper = FileKeeper::new(rt, folder, REFEREE)?;
-        let (node, outcome) = RefereeNode::begin(rt.alloc(), id, terms, &mut keeper)?;
-        check_restart(outcome)?;
-        let mut referee = LoneReferee {
+        let node = begun(rt.alloc(), id, terms, &mut keeper)?;
+        Ok(LoneReferee {
+            saved: entries_of(&node),
             node,
             keeper,
             link: PostLink::new(rt.alloc()),
             words,
-            saved: 0,
-        };
-        referee.saved = referee.entries();
-        Ok(referee)
+        })
     }
 
     /// Returns the record, or `None` where the referee is down.
     pub fn held(&self) -> Option<&Record> {
         self.node.held()
-    }
-
-    fn entries(&self) -> Number {
-        match self.node.held() {
-            None => 0,
-            Some(record) => record.len(),
-        }
     }
 
     /// Takes what has come and answers it, opens a game or passes a turn where that is due, saves
@@ -98,7 +89,7 @@ impl<'a, R: Files<File = File> + AllocGlobal> LoneReferee<'a, R> {
         // If this word opens no game that is due, the next turn tries another one.
         let word = self.words.next_word();
         self.node.due(word);
-        if self.entries() > self.saved {
+        if entries_of(&self.node) > self.saved {
             self.save()?;
         }
         self.node.tick(&mut self.link, MOST_PARTIES);
@@ -114,7 +105,27 @@ impl<'a, R: Files<File = File> + AllocGlobal> LoneReferee<'a, R> {
             Outcome::SaveFault => check_restart(self.node.restart(&mut self.keeper))?,
             outcome => return Err(ProcessFault::Stopped(outcome)),
         }
-        self.saved = self.entries();
+        self.saved = entries_of(&self.node);
         Ok(())
+    }
+}
+
+/// Returns a referee that the keeper restores, which is up.
+fn begun<K: Keeper>(
+    alloc: Global,
+    id: u64,
+    terms: Terms,
+    keeper: &mut K,
+) -> Result<RefereeNode, ProcessFault> {
+    let (node, outcome) = RefereeNode::begin(alloc, id, terms, keeper)?;
+    check_restart(outcome)?;
+    Ok(node)
+}
+
+/// Returns the number of entries that a referee holds, or 0 where it is down.
+fn entries_of(node: &RefereeNode) -> Number {
+    match node.held() {
+        None => 0,
+        Some(record) => record.len(),
     }
 }

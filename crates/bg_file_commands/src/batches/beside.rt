@@ -1,42 +1,30 @@
 //! Headers of matches, in files beside their transcripts.
 
 use crate::attempts::done_at;
-use crate::batches::put_file;
-use crate::batches::targets::target_of;
-use crate::header_files::read_headers;
-use crate::header_texts::put_headers;
-use crate::headers::Headers;
+use crate::batches::put_target;
+use crate::header_files::{header_lines, read_headers};
 use crate::inputs::read_file;
-use bg_console::{allocated, say, wrong};
-use bg_options::HeaderOptions;
+use bg_console::{allocated, wrong};
+use bg_options::{BatchOptions, HeaderOptions};
 use bg_reports::Ending;
-use bg_system::Printable;
 use std::io::ErrorKind;
 
 /// The end of the name of a file with headers.
 const ENDING: &str = ".headers";
 
-/// Writes what a match file with this name and these bytes says above its match into a file in a
-/// folder, if it says anything. Reports the first text that is malformed.
+/// Writes what a match file with this name and these bytes says above its match into a file of the
+/// batch, if it says anything. Reports the first text that is malformed.
 pub(super) fn keep_headers(
     rt: &HostRuntime,
-    folder: &str,
+    batch: &BatchOptions<'_, '_>,
     name: &str,
     bytes: &[u8],
-    is_forced: bool,
 ) -> Result<(), Ending> {
-    let headers = Headers::read(bytes);
-    if let Some(fault) = headers.fault {
-        let name = Printable(name);
-        say(rt, format_args!("{name}: {fault}: it is left out"));
-    }
-    let mut text = Vec::new(rt.alloc());
-    allocated(rt, put_headers(&mut text, &headers.texts))?;
+    let text = header_lines(rt, name, bytes)?;
     if text.is_empty() {
         return Ok(());
     }
-    let path = allocated(rt, target_of(rt.alloc(), folder, name, (".mat", ENDING)))?;
-    put_file(rt, path.as_str(), &text, is_forced)
+    put_target(rt, batch, name, (".mat", ENDING), &text)
 }
 
 /// Returns the bytes of the file of headers beside a transcript with this name; none where there is
@@ -52,8 +40,8 @@ pub(super) fn bytes_beside(rt: &HostRuntime, name: &str) -> Result<Vec<u8>, Endi
     done_at(rt, path.as_str(), " could not be read", bytes)
 }
 
-/// Returns the headers of the bytes of the file beside a transcript with this name. Reports the
-/// first line that is no header.
+/// Returns the headers of the bytes of the file beside a transcript with this name, as it is
+/// printed. Reports the first line that is no header.
 pub(super) fn headers_beside<'b>(
     rt: &HostRuntime,
     name: &str,
@@ -61,14 +49,11 @@ pub(super) fn headers_beside<'b>(
 ) -> Result<HeaderOptions<'b>, Ending> {
     match read_headers(bytes) {
         Ok(headers) => Ok(headers),
-        Err(line) => {
-            let name = Printable(name);
-            Err(wrong(
-                rt,
-                format_args!(
-                    "{name}: line {line} of the headers beside it is invalid: it was not exported"
-                ),
-            ))
-        }
+        Err(line) => Err(wrong(
+            rt,
+            format_args!(
+                "{name}: line {line} of the headers beside it is invalid: it was not exported"
+            ),
+        )),
     }
 }

@@ -1,6 +1,6 @@
 //! The files that are written for others, in a folder.
 
-use bg_console::{no_memory, wrong_at};
+use bg_console::{allocated, wrong_at};
 use bg_options::BatchOptions;
 use bg_reports::Ending;
 use std::alloc::{AllocError, Global};
@@ -31,9 +31,7 @@ pub(super) fn check_targets(
     batch: &BatchOptions<'_, '_>,
     endings: NameEndings,
 ) -> Result<(), Ending> {
-    let Ok(targets) = sorted_targets(rt.alloc(), batch, endings) else {
-        return Err(no_memory(rt));
-    };
+    let targets = allocated(rt, sorted_targets(rt.alloc(), batch, endings))?;
     let mut before = "";
     for target in &targets {
         if target.as_str() == before {
@@ -54,6 +52,6 @@ fn sorted_targets(
     for name in batch.files {
         targets.push(target_of(alloc, batch.folder, name, endings)?)?;
     }
-    targets.sort_by(|one: &String, other: &String| one.as_str().cmp(other.as_str()))?;
+    targets.sort()?;
     Ok(targets)
 }

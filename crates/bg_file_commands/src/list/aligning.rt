@@ -1,8 +1,10 @@
 //! Aligning the parts of lines in columns.
 
 use crate::list::rows::{HEADING, NOTHING};
+use crate::texts::put_texts;
 use bg_text::put_text;
 use std::alloc::{AllocError, Global};
+use unicode_width::UnicodeWidthStr;
 
 /// The separator between the parts of a line that are not aligned yet.
 pub(crate) const BETWEEN: char = '\t';
@@ -40,15 +42,14 @@ fn put_aligned(
             put_part(text, part, *width)?;
         }
     }
-    put_text(text, last)?;
-    put_text(text, "\n")
+    put_texts(text, &[last, "\n"])
 }
 
 /// Appends a part of a line, as wide as its column, and the space behind it.
 fn put_part(text: &mut Vec<u8>, part: &str, width: usize) -> Result<(), AllocError> {
     let part = if part.is_empty() { NOTHING } else { part };
     put_text(text, part)?;
-    for _ in columns_of(part)..width {
+    for _ in part.width()..width {
         put_text(text, " ")?;
     }
     put_text(text, "  ")
@@ -72,12 +73,7 @@ fn widen(widths: &mut [usize; MOST_PARTS], line: &str, least: usize) {
     };
     for (width, part) in widths.iter_mut().zip(front.split(BETWEEN)) {
         if *width >= least {
-            *width = (*width).max(columns_of(part));
+            *width = (*width).max(part.width());
         }
     }
-}
-
-/// Returns the number of columns that a part takes.
-fn columns_of(part: &str) -> usize {
-    part.chars().count()
 }

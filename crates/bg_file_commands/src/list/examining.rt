@@ -62,12 +62,18 @@ impl Listed {
         }
     }
 
-    /// Returns the listing of a folder that can't be read for this reason.
+    /// Returns the listing of a folder in which what has this name, or the folder itself where the
+    /// name is empty, can't be read for this reason.
     ///
     /// # Errors
     /// `OutOfMemory` alone.
-    pub(crate) fn unread(alloc: Global, path: String, error: io::Error) -> io::Result<Listed> {
-        Ok(Listed::faulty(path, unread(alloc, "", error)?))
+    pub(crate) fn unread(
+        alloc: Global,
+        path: String,
+        name: &str,
+        error: io::Error,
+    ) -> io::Result<Listed> {
+        Ok(Listed::faulty(path, unread(alloc, name, error)?))
     }
 }
 
@@ -76,23 +82,20 @@ impl Listed {
 /// # Errors
 /// `OutOfMemory` alone.
 pub(crate) fn examine(rt: &HostRuntime, path: String, locks: &Locks) -> io::Result<Listed> {
-    match match_file_in(rt, path.as_str())? {
-        Ok(file) => listing_of(rt, path, file, locks),
-        Err(fault) => Ok(Listed::faulty(path, fault)),
+    match match_file_in(rt, path.as_str()) {
+        Ok(Some(file)) => listing_of(rt, path, file, locks),
+        Ok(None) => {
+            let words = String::from_str(rt.alloc(), "match is no match file")?;
+            Ok(Listed::faulty(path, Held::faulty(Soundness::Unsound, words)))
+        }
+        Err(error) => Listed::unread(rt.alloc(), path, "match ", error),
     }
 }
 
-/// Reads the match file of a folder, or returns what is wrong with it.
-fn match_file_in(rt: &HostRuntime, folder: &str) -> io::Result<Result<NamedMatch, Held>> {
+/// Reads the match file of a folder. Returns `None` where it isn't one.
+fn match_file_in(rt: &HostRuntime, folder: &str) -> io::Result<Option<NamedMatch>> {
     let name = path_in(rt.alloc(), folder, "match")?;
-    Ok(match NamedMatch::read(rt, name.as_str()) {
-        Ok(Some(file)) => Ok(file),
-        Ok(None) => {
-            let words = String::from_str(rt.alloc(), "match is no match file")?;
-            Err(Held::faulty(Soundness::Unsound, words))
-        }
-        Err(error) => Err(unread(rt.alloc(), "match ", error)?),
-    })
+    NamedMatch::read(rt, name.as_str())
 }
 
 /// Returns the result where a file can't be read, unless memory ran out.
@@ -150,30 +153,20 @@ fn settled(rt: &HostRuntime, folder: &str, table: &MatchFile) -> io::Result<Held
 
 /// Returns what the saves of a folder hold.
 fn read(rt: &HostRuntime, folder: &str, table: &MatchFile) -> io::Result<Held> {
-    let zero = match bytes_of(rt, folder, Slot::Zero)? {
+    let zero = match bytes_of(rt, folder, Slot::Zero) {
         Ok(bytes) => bytes,
-        Err(fault) => return Ok(fault),
+        Err(error) => return unread(rt.alloc(), "party-0.0 ", error),
     };
-    let one = match bytes_of(rt, folder, Slot::One)? {
-        Ok(bytes) => bytes,
-        Err(fault) => return Ok(fault),
-    };
-    Ok(held_in(rt.alloc(), table, &zero, &one)?)
+    match bytes_of(rt, folder, Slot::One) {
+        Ok(one) => Ok(held_in(rt.alloc(), table, &zero, &one)?),
+        Err(error) => unread(rt.alloc(), "party-0.1 ", error),
+    }
 }
 
-/// Reads the bytes of one of the referee's files, or returns why it can't be read.
-fn bytes_of(rt: &HostRuntime, folder: &str, slot: Slot) -> io::Result<Result<Vec<u8>, Held>> {
+/// Reads the bytes of one of the referee's files.
+fn bytes_of(rt: &HostRuntime, folder: &str, slot: Slot) -> io::Result<Vec<u8>> {
     let path = slot_path(rt.alloc(), folder, REFEREE, slot)?;
-    match read_saved(rt, path.as_str()) {
-        Ok(bytes) => Ok(Ok(bytes)),
-        Err(error) => {
-            let name = match slot {
-                Slot::Zero => "party-0.0 ",
-                Slot::One => "party-0.1 ",
-            };
-            Ok(Err(unread(rt.alloc(), name, error)?))
-        }
-    }
+    read_saved(rt, path.as_str())
 }
 
 /// Returns the time when the newer of the referee's files was written, in seconds since 1970.

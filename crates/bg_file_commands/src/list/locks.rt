@@ -35,7 +35,17 @@ impl Locks {
         let (device, inode) = (found.dev(), found.ino());
         let (major, minor) = (major_of(device), minor_of(device));
         let place = format!(in rt.alloc(); " {major:02x}:{minor:02x}:{inode} 0 EOF")?;
-        Ok(self.told.lines().any(|line| line.contains("FLOCK") && line.ends_with(place.as_str())))
+        Ok(self.are_at(place.as_str()))
+    }
+
+    /// Returns whether processes have locked what these words name, as they lock their folders.
+    fn are_at(&self, place: &str) -> bool {
+        for line in self.told.lines() {
+            if line.contains("FLOCK") && line.ends_with(place) {
+                return true;
+            }
+        }
+        false
     }
 }
 

@@ -1,7 +1,7 @@
 //! The line of a match for programs: a JSON object.
 
 use crate::list::examining::Listed;
-use crate::list::times::Moment;
+use crate::list::times::put_time;
 use bg_match::{Phase, Standing};
 use bg_system::{NamedMatch, Names, number_of_rules};
 use bg_text::{put_number, put_phase, put_text};
@@ -31,8 +31,7 @@ pub(crate) fn put_object(
         put_numbered(out, ",\"entries\":", listed.held.entries.into())?;
     }
     if let Some(seconds) = listed.changed {
-        let changed = format!(in alloc; ",\"changed\":\"{}\"", Moment(seconds))?;
-        put_text(out, changed.as_str())?;
+        put_time(alloc, out, ",\"changed\":\"", seconds, "\"")?;
     }
     put_flag(out, ",\"saved\":", listed.held.fault.is_empty())?;
     if !listed.held.fault.is_empty() {
@@ -43,18 +42,14 @@ pub(crate) fn put_object(
 
 /// Appends the names that players have.
 fn put_names(alloc: Global, out: &mut Vec<u8>, names: &Names) -> Result<(), AllocError> {
-    if names.x.is_none() && names.o.is_none() {
-        return Ok(());
-    }
-    put_text(out, ",\"names\":{")?;
-    if let Some(name) = &names.x {
-        put_quoted(alloc, out, "\"x\":", name.as_str())?;
-    }
-    if names.x.is_some() && names.o.is_some() {
-        put_text(out, ",")?;
-    }
-    if let Some(name) = &names.o {
-        put_quoted(alloc, out, "\"o\":", name.as_str())?;
+    match (&names.x, &names.o) {
+        (None, None) => return Ok(()),
+        (Some(x), None) => put_quoted(alloc, out, ",\"names\":{\"x\":", x.as_str())?,
+        (None, Some(o)) => put_quoted(alloc, out, ",\"names\":{\"o\":", o.as_str())?,
+        (Some(x), Some(o)) => {
+            put_quoted(alloc, out, ",\"names\":{\"x\":", x.as_str())?;
+            put_quoted(alloc, out, ",\"o\":", o.as_str())?;
+        }
     }
     put_text(out, "}")
 }

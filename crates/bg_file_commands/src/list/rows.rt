@@ -1,10 +1,12 @@
 //! The line of a match for people.
 
+use crate::inputs::shown;
 use crate::list::examining::Listed;
-use crate::list::times::Moment;
+use crate::list::times::put_time;
+use crate::texts::put_texts;
 use bg_console::Pairing;
 use bg_match::Standing;
-use bg_system::{MatchFile, NamedMatch, Names, Printable};
+use bg_system::{MatchFile, NamedMatch, Names};
 use bg_text::{put_number, put_phase, put_text};
 use std::alloc::{AllocError, Global};
 
@@ -17,8 +19,7 @@ pub(crate) const NOTHING: &str = "-";
 
 /// Appends the line of a folder, whose parts are still to be aligned.
 pub(crate) fn put_row(alloc: Global, out: &mut Vec<u8>, listed: &Listed) -> Result<(), AllocError> {
-    let path = format!(in alloc; "{}\t", Printable(listed.path.as_str()))?;
-    put_text(out, path.as_str())?;
+    put_texts(out, &[shown(alloc, listed.path.as_str())?.as_str(), "\t"])?;
     if let Some(NamedMatch { table, names }) = &listed.file {
         put_numbered(out, table.id, "\t")?;
         put_names(alloc, out, names)?;
@@ -26,12 +27,10 @@ pub(crate) fn put_row(alloc: Global, out: &mut Vec<u8>, listed: &Listed) -> Resu
             put_standing(out, table, standing)?;
             put_numbered(out, listed.held.entries.into(), "\t")?;
             put_changed(alloc, out, listed.changed)?;
-            put_text(out, if listed.is_open { "open" } else { NOTHING })?;
-            put_text(out, "\t")?;
+            put_text(out, if listed.is_open { "open\t" } else { "-\t" })?;
         }
     }
-    put_text(out, state_of(listed))?;
-    put_text(out, "\n")
+    put_texts(out, &[state_of(listed), "\n"])
 }
 
 /// Returns the word for the state of the saves.
@@ -47,11 +46,10 @@ fn state_of(listed: &Listed) -> &str {
 
 /// Appends the names of the players, and no text where neither has a name.
 fn put_names(alloc: Global, out: &mut Vec<u8>, names: &Names) -> Result<(), AllocError> {
-    if let Some(pairing) = Pairing::of(names) {
-        let text = format!(in alloc; "{pairing}")?;
-        put_text(out, text.as_str())?;
+    match Pairing::of(names) {
+        Some(pairing) => put_text(out, format!(in alloc; "{pairing}\t")?.as_str()),
+        None => put_text(out, "\t"),
     }
-    put_text(out, "\t")
 }
 
 /// Appends the score, the game, and what happens next.
@@ -72,13 +70,9 @@ fn put_standing(
 /// Appends the time of the last save.
 fn put_changed(alloc: Global, out: &mut Vec<u8>, changed: Option<u64>) -> Result<(), AllocError> {
     match changed {
-        Some(seconds) => {
-            let text = format!(in alloc; "{}", Moment(seconds))?;
-            put_text(out, text.as_str())?;
-        }
-        None => put_text(out, NOTHING)?,
+        Some(seconds) => put_time(alloc, out, "", seconds, "\t"),
+        None => put_text(out, "-\t"),
     }
-    put_text(out, "\t")
 }
 
 /// Appends a number, and these words behind it.

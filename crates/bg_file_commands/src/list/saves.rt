@@ -51,16 +51,9 @@ pub(crate) fn held_in(
 ) -> Result<Held, AllocError> {
     let (length, rules) = (table.terms.length, table.terms.rules);
     match restore(alloc, zero, one, REFEREE, table.id, length, rules) {
-        Ok(Some(saved)) => {
-            let fault = fault_beside(alloc, &saved, zero, one)?;
-            Ok(Held::with(Some(saved.log.standing()), saved.log.len(), fault))
-        }
-        Ok(None) => {
-            let start = Record::new(alloc, table.id, length, rules).ok();
-            let fault = fault_at_start(alloc, one)?;
-            Ok(Held::with(start.map(|record| record.standing()), 0, fault))
-        }
-        Err(RestoreRefusal::Damaged) => { Ok(Held::with(None, 0, faults_of(alloc, zero, one)?)) }
+        Ok(Some(saved)) => held_by(alloc, &saved, zero, one),
+        Ok(None) => held_at_start(alloc, table, one),
+        Err(RestoreRefusal::Damaged) => Ok(Held::with(None, 0, faults_of(alloc, zero, one)?)),
         Err(RestoreRefusal::WrongMatch) => {
             let fault = String::from_str(alloc, "the saves are of another match")?;
             Ok(Held::with(None, 0, fault))
@@ -69,20 +62,31 @@ pub(crate) fn held_in(
     }
 }
 
-/// Returns what is wrong with the first save of a match of which nothing else was saved.
-fn fault_at_start(alloc: Global, one: &[u8]) -> Result<String, AllocError> {
-    if one.is_empty() {
-        return Ok(String::new(alloc));
-    }
-    fault_of(alloc, Slot::One, one)
+/// Returns what two saves hold, of which this one counts.
+fn held_by(alloc: Global, saved: &Saved, zero: &[u8], one: &[u8]) -> Result<Held, AllocError> {
+    let fault = fault_beside(alloc, saved, zero, one)?;
+    Ok(Held::with(Some(saved.log.standing()), saved.log.len(), fault))
+}
+
+/// Returns what is held of a match of which nothing was saved, but for a fault of its first save.
+fn held_at_start(alloc: Global, table: &MatchFile, one: &[u8]) -> Result<Held, AllocError> {
+    let fault = if one.is_empty() {
+        String::new(alloc)
+    } else {
+        fault_of(alloc, Slot::One, one)?
+    };
+    let standing = match Record::new(alloc, table.id, table.terms.length, table.terms.rules) {
+        Ok(record) => Some(record.standing()),
+        Err(_) => None,
+    };
+    Ok(Held::with(standing, 0, fault))
 }
 
 /// Returns what is wrong with two saves.
 fn faults_of(alloc: Global, zero: &[u8], one: &[u8]) -> Result<String, AllocError> {
-    let mut faults = fault_of(alloc, Slot::Zero, zero)?;
-    faults.push_str(", ")?;
-    faults.push_str(fault_of(alloc, Slot::One, one)?.as_str())?;
-    Ok(faults)
+    let zero = fault_of(alloc, Slot::Zero, zero)?;
+    let one = fault_of(alloc, Slot::One, one)?;
+    format!(in alloc; "{zero}, {one}")
 }
 
 /// Returns what is wrong with the save beside the one that counts. It should be the one before, and

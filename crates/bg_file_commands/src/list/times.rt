@@ -1,28 +1,29 @@
 //! The time of an event.
 
-use std::fmt;
-use std::fmt::{Display, Formatter, Write};
+use bg_text::put_text;
+use std::alloc::{AllocError, Global};
 
 const SECONDS_OF_DAY: u64 = 86_400;
 
 /// The last year that is written by its own number.
 const LAST_YEAR: u64 = 9999;
 
-/// A time in seconds since 1970. `Display` writes its date and time of day in UTC, as in
-/// `2026-11-27T09:21:40Z`.
-#[derive(Clone, Copy)]
-pub(crate) struct Moment(pub(crate) u64);
-
-impl Display for Moment {
-    fn fmt<W: Write>(&self, f: &mut Formatter<W>) -> fmt::Result {
-        let (year, month, day) = date_of(self.0 / SECONDS_OF_DAY);
-        let second = self.0 % SECONDS_OF_DAY;
-        let (hour, minute, second) = (second / 3600, second / 60 % 60, second % 60);
-        write!(
-            f,
-            "{year:04}-{month:02}-{day:02}T{hour:02}:{minute:02}:{second:02}Z"
-        )
-    }
+/// Appends the date and the time of day, in UTC, of a time in seconds since 1970, as in
+/// `2026-11-27T09:21:40Z`, and these words around it.
+pub(crate) fn put_time(
+    alloc: Global,
+    out: &mut Vec<u8>,
+    before: &str,
+    seconds: u64,
+    behind: &str,
+) -> Result<(), AllocError> {
+    let (year, month, day) = date_of(seconds / SECONDS_OF_DAY);
+    let second = seconds % SECONDS_OF_DAY;
+    let (hour, minute, second) = (second / 3600, second / 60 % 60, second % 60);
+    let text = format!(in alloc;
+        "{before}{year}-{month:02}-{day:02}T{hour:02}:{minute:02}:{second:02}Z{behind}"
+    )?;
+    put_text(out, text.as_str())
 }
 
 /// Returns the year, the month and the day of the date this number of days after the start of 1970.

@@ -1,8 +1,8 @@
 //! What is wrong with the files of matches, which is reported once.
 
-use crate::watchers::{NoWatcher, Watcher, begin_watcher};
+use crate::watchers::NoWatcher;
 use bg_console::{allocated, key_file_of, match_of, no_memory, say_of, say_why};
-use bg_processes::{Failures, KeyFile, NamedMatch};
+use bg_processes::{KeyFile, NamedMatch};
 use bg_reports::Ending;
 use bg_wire::FIRST_WATCHER;
 
@@ -46,24 +46,8 @@ impl<'a> Reports<'a> {
         Ok(None)
     }
 
-    /// Begins a watcher of the match of a key file. Reports once why there is none.
-    pub(crate) fn watcher_of(
-        &mut self,
-        path: &str,
-        file: &KeyFile,
-        failures: &'a Failures,
-    ) -> Result<Option<Watcher<'a>>, Ending> {
-        match begin_watcher(self.rt, path, &file.table, &file.key, failures) {
-            Ok((_, process)) => Ok(Some(process)),
-            Err(fault) => {
-                self.report(path, &fault)?;
-                Ok(None)
-            }
-        }
-    }
-
     /// Reports why a match has no watcher, unless something was reported of its key file.
-    fn report(&mut self, path: &str, fault: &NoWatcher) -> Result<(), Ending> {
+    pub(crate) fn report(&mut self, path: &str, fault: &NoWatcher) -> Result<(), Ending> {
         if let NoWatcher::Reported(ending) = fault {
             return Err(*ending);
         }

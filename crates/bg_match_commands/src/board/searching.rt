@@ -7,6 +7,7 @@ use crate::board::reports::Reports;
 use crate::board::saved::{LOOKS_AFTER_CHANGE, SavedMatch};
 use crate::board::stamps::{FileStamp, stamp_of};
 use crate::board::watched::WatchedMatch;
+use crate::watchers::begin_watcher;
 use bg_console::{
     Finding, MatchBelow, NO_MATCH, allocated, matches_below, no_memory, path_in, say_of, say_why,
 };
@@ -75,11 +76,12 @@ impl<'a, 'm, 's> Search<'a, 'm, 's> {
             one.is_found = false;
         }
         for place in self.places.iter().copied() {
-            if is_file(self.rt, place) {
-                self.meet_key_file(place_of_key_file(place), place, matches)?;
+            let searched = if is_file(self.rt, place) {
+                self.meet_key_file(place_of_key_file(place), place, matches)
             } else {
-                self.search_in(place, matches)?;
-            }
+                self.search_in(place, matches)
+            };
+            searched?;
         }
         let known = matches.len();
         matches.retain(|one| one.is_found);
@@ -172,12 +174,13 @@ impl<'a, 'm, 's> Search<'a, 'm, 's> {
         let Some(file) = self.reports.key_file_at(path)? else {
             return Ok(());
         };
-        let Some(process) = self.reports.watcher_of(path, &file, self.failures)? else {
-            return Ok(());
-        };
-        let origin = Origin::Watched(WatchedMatch::new(process));
-        let NamedMatch { table, names } = file.named_match();
-        self.add(met, table.id, names, origin, matches)
+        match begin_watcher(self.rt, path, &file.table, &file.key, self.failures) {
+            Ok((_, process)) => {
+                let origin = Origin::Watched(WatchedMatch::new(process));
+                self.add(met, file.table.id, file.names, origin, matches)
+            }
+            Err(fault) => self.reports.report(path, &fault),
+        }
     }
 
     /// Returns a file that was met, as it is now.

@@ -1,6 +1,6 @@
 //! The board of a match that is watched at a terminal.
 
-use crate::watch::screens::{drawn_in_place, screen_text};
+use crate::watch::screens::{put_in_place, put_screen};
 use bg_auto::{Observer, party_at};
 use bg_command_parts::{GameResult, Results, Silence, is_out_of_step};
 use bg_console::{Called, Pairing, Terminal, broken, say, write_out, written};
@@ -139,11 +139,15 @@ impl<'a> LiveBoard<'a> {
 
     fn draw(&self, record: &Record) -> io::Result<()> {
         let alloc = self.rt.alloc();
-        let foot = self.foot(alloc, record)?;
+        let mut foot = String::new(alloc);
+        self.put_foot(&mut foot, record)?;
         let foot = broken(alloc, foot.as_bytes(), self.terminal.columns)?;
         let heading = self.heading(alloc)?;
-        let text = screen_text(alloc, record, &heading, &foot, self.terminal)?;
-        write_out(self.rt, &drawn_in_place(alloc, &text, self.terminal)?)
+        let mut text = Vec::new(alloc);
+        put_screen(&mut text, record, &heading, &foot, self.terminal)?;
+        let mut out = Vec::new(alloc);
+        put_in_place(&mut out, &text, self.terminal)?;
+        write_out(self.rt, &out)
     }
 
     /// Returns the line above the board: who plays, where a player has a name.
@@ -157,27 +161,29 @@ impl<'a> LiveBoard<'a> {
         Ok(broken(alloc, line.as_bytes(), self.terminal.columns)?)
     }
 
-    /// Returns the lines below the entries: the result of the game before until a player acts in
-    /// the next one, and whether the referee is heard. At the end of the match they give its result.
-    fn foot(&self, alloc: Global, record: &Record) -> io::Result<String> {
-        let mut foot = String::new(alloc);
+    /// Appends the lines below the entries to a text: the result of the game before until a player
+    /// acts in the next one, and whether the referee is heard. At the end of the match they give its
+    /// result.
+    fn put_foot(&self, foot: &mut String, record: &Record) -> Result<(), AllocError> {
         let opened = record.len().saturating_sub(1);
-        if let Some((result, _)) = self.result.filter(|(_, end)| opened <= *end) {
-            foot = format!(in alloc; "{result}\n")?;
-            if let Some(result) = result.of_match() {
-                foot = format!(in alloc; "{foot}{result}\n")?;
+        if let Some((result, end)) = &self.result {
+            if opened <= *end {
+                add_line(foot, *result)?;
+                if let Some(result) = result.of_match() {
+                    add_line(foot, result)?;
+                }
             }
         }
         if let Some(trouble) = &self.trouble {
-            foot = format!(in alloc; "{foot}{trouble}\n")?;
+            add_line(foot, trouble.as_str())?;
         }
         if self.is_unwritten {
-            foot = format!(in alloc; "{foot}{UNWRITTEN}\n")?;
+            add_line(foot, UNWRITTEN)?;
         }
         if let Phase::Over(_) = record.standing().phase() {
-            return Ok(foot);
+            return Ok(());
         }
-        Ok(format!(in alloc; "{foot}{}\n", self.referee)?)
+        add_line(foot, self.referee)
     }
 
     /// Keeps an error for the screen, and prints it where the standard error is another place.
@@ -201,6 +207,12 @@ impl<'a> LiveBoard<'a> {
         self.is_old = self.is_old || is_unwritten != self.is_unwritten;
         self.is_unwritten = is_unwritten;
     }
+}
+
+/// Appends a line to a text.
+fn add_line<D: Display + Drop>(text: &mut String, line: D) -> Result<(), AllocError> {
+    *text = format!(in *text.allocator(); "{text}{line}\n")?;
+    Ok(())
 }
 
 impl<'a> Observer for LiveBoard<'a> {

@@ -28,48 +28,48 @@ const PIPS: &str = "pips: ";
 
 const LEFT_OUT: [&str; 3] = ["length ", "cube: ", "score: "];
 
-/// The terminal sequences that go to the upper left corner, clear the rest of the line, and clear
-/// the rest of the screen.
+/// The terminal sequences that go to the upper left corner, clear the rest of the line and end it,
+/// and clear the rest of the screen.
 const HOME: &[u8] = b"\x1b[H";
 
-const CLEAR_LINE: &[u8] = b"\x1b[K";
+const CLEAR_LINE: &[u8] = b"\x1b[K\n";
 
 const CLEAR_BELOW: &[u8] = b"\x1b[J";
 
-/// Returns the lines of a screen, which leave one for the cursor: a heading, the view of the match,
-/// as many of the newest entries as fit, and a foot. The view has the match, the score, the board
-/// from X's side and whose turn it is. Where these don't fit, the pip counts are left out, then the
-/// heading, and then more of the view; the foot stays.
+/// Appends the lines of a screen to a text, which leave one for the cursor: a heading, the view of
+/// the match, as many of the newest entries as fit, and a foot. The view has the match, the score,
+/// the board from X's side and whose turn it is. Where these don't fit, the pip counts are left out,
+/// then the heading, and then more of the view; the foot stays.
 ///
 /// # Errors
 /// An error where there is no memory for it.
-pub(super) fn screen_text(
-    alloc: Global,
+pub(super) fn put_screen(
+    text: &mut Vec<u8>,
     record: &Record,
     heading: &[u8],
     foot: &[u8],
     terminal: Terminal,
-) -> io::Result<Vec<u8>> {
+) -> io::Result<()> {
+    let alloc = *text.allocator();
     let room = room_of(terminal).saturating_sub(lines_in(foot));
     let mut table = table_text(alloc, record, terminal)?;
     if lines_in(heading).saturating_add(lines_in(&table)) > room {
         table = without(alloc, &table, PIPS)?;
     }
-    let mut text = Vec::new(alloc);
     if lines_in(heading).saturating_add(lines_in(&table)) <= room {
         text.extend_from_slice(heading)?;
     }
-    text.extend_from_slice(&fitting(alloc, table, room)?)?;
-    let room = room.saturating_sub(lines_in(&text));
+    put_fitting(text, table, room)?;
+    let room = room.saturating_sub(lines_in(text));
     let room = Number::try_from(room).unwrap_or(Number::MAX);
-    put_entries(&mut text, record, record.len().saturating_sub(room))?;
-    text.extend_from_slice(foot)?;
-    Ok(text)
+    put_entries(text, record, record.len().saturating_sub(room))?;
+    Ok(text.extend_from_slice(foot)?)
 }
 
-/// Returns as many lines of a view as there is room for. First those that matter least are left
+/// Appends as many lines of a view as there is room for. First those that matter least are left
 /// out, and then the lowest, of which the last line tells the number.
-fn fitting(alloc: Global, table: Vec<u8>, room: usize) -> io::Result<Vec<u8>> {
+fn put_fitting(text: &mut Vec<u8>, table: Vec<u8>, room: usize) -> io::Result<()> {
+    let alloc = *text.allocator();
     let mut view = table;
     for start in LEFT_OUT {
         if lines_in(&view) > room {
@@ -77,17 +77,19 @@ fn fitting(alloc: Global, table: Vec<u8>, room: usize) -> io::Result<Vec<u8>> {
         }
     }
     let shown = room.saturating_sub(1);
-    let cut = lines_in(&view).saturating_sub(shown);
-    if cut <= 1 {
-        return Ok(view);
+    match lines_in(&view).saturating_sub(shown) {
+        0 | 1 => Ok(text.extend_from_slice(&view)?),
+        cut => put_cut(text, &view, shown, cut),
     }
-    let mut text = Vec::new(alloc);
-    for line in lines_of(&view).take(shown) {
-        put_line(&mut text, line)?;
+}
+
+/// Appends the first `shown` lines of a view, and a line that tells how many others were cut off.
+fn put_cut(text: &mut Vec<u8>, view: &[u8], shown: usize, cut: usize) -> io::Result<()> {
+    for line in lines_of(view).take(shown) {
+        put_line(text, line)?;
     }
-    let told = format!(in alloc; "(and {cut} lines that don't fit here)")?;
-    put_line(&mut text, told.as_str())?;
-    Ok(text)
+    let told = format!(in *text.allocator(); "(and {cut} lines that don't fit here)")?;
+    put_line(text, told.as_str())
 }
 
 /// Returns a text without the lines that begin so.
@@ -142,29 +144,22 @@ fn drawing_on(terminal: Terminal) -> Drawing {
     }
 }
 
-/// Returns the bytes that draw the lines of a screen in place of those drawn before. What does not
+/// Appends the bytes that draw the lines of a screen in place of those drawn before. What does not
 /// fit the terminal is cut off.
 ///
 /// # Errors
 /// An error where there is no memory for it.
-pub(super) fn drawn_in_place(
-    alloc: Global,
-    text: &[u8],
-    terminal: Terminal,
-) -> io::Result<Vec<u8>> {
-    let mut out = Vec::new(alloc);
+pub(super) fn put_in_place(out: &mut Vec<u8>, text: &[u8], terminal: Terminal) -> io::Result<()> {
     out.extend_from_slice(HOME)?;
     for line in lines_of(text).take(room_of(terminal)) {
         let line = line.get(..terminal.columns).unwrap_or(line).as_bytes();
         if terminal.has_colours {
-            let coloured = with_coloured_checkers(alloc, line, SEEN_FROM)?;
+            let coloured = with_coloured_checkers(*out.allocator(), line, SEEN_FROM)?;
             out.extend_from_slice(&coloured)?;
         } else {
             out.extend_from_slice(line)?;
         }
         out.extend_from_slice(CLEAR_LINE)?;
-        out.push(b'\n')?;
     }
-    out.extend_from_slice(CLEAR_BELOW)?;
-    Ok(out)
+    Ok(out.extend_from_slice(CLEAR_BELOW)?)
 }

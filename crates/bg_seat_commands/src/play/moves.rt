@@ -135,18 +135,18 @@ impl<'a> Table<'a> {
     /// Keeps what was typed of a turn, where a legal turn begins with its steps and they hit where
     /// hits are marked, if any are. Otherwise prints why it is refused.
     fn go_on(&mut self, typed: Vec<u8>, board: &Board, dice: Dice) -> Result<(), Ending> {
-        let rt = self.rt;
-        let turn = match typed_steps(rt.alloc(), &typed) {
-            Ok(turn) => in_single_dice(turn, dice),
-            Err(fault) => return self.tell_fault(&fault),
+        let alloc = self.rt.alloc();
+        let fits = match typed_steps(alloc, &typed) {
+            Ok(part) => {
+                let part = in_single_dice(part, dice);
+                if !self.begins_turn(board, dice, &part)? {
+                    return Ok(());
+                }
+                fits_marks(alloc, &typed, board, self.player, &part)
+            }
+            Err(fault) => Err(fault),
         };
-        let Err(fault) = judge_turn(board, self.player, dice, &turn) else {
-            return Ok(());
-        };
-        if fault != TurnFault::MoreCanBePlayed || self.beyond(board, dice, &turn)?.is_none() {
-            return self.refuse_turn(board, dice, &turn, fault);
-        }
-        match fits_marks(rt.alloc(), &typed, board, self.player, &turn) {
+        match fits {
             Ok(true) => {
                 self.typed = typed;
                 self.tell_typed()
@@ -154,6 +154,19 @@ impl<'a> Table<'a> {
             Ok(false) => self.tell_fault(&TypedFault::WrongHits),
             Err(fault) => self.tell_fault(&fault),
         }
+    }
+
+    /// Returns whether a legal turn begins with the steps of this one and has more. Otherwise prints
+    /// why this one can't be played.
+    fn begins_turn(&self, board: &Board, dice: Dice, part: &Turn) -> Result<bool, Ending> {
+        let Err(fault) = judge_turn(board, self.player, dice, part) else {
+            return Ok(false);
+        };
+        if fault == TurnFault::MoreCanBePlayed && self.beyond(board, dice, part)?.is_some() {
+            return Ok(true);
+        }
+        self.refuse_turn(board, dice, part, fault)?;
+        Ok(false)
     }
 
     /// Plays the turn that was read. But asks which one is meant where what was typed is also a

@@ -10,7 +10,7 @@ use crate::seats::Round;
 use bg_board::Player;
 use bg_command_parts::Silence;
 use bg_console::{allocated, put_entries, written};
-use bg_match::{Number, Standing};
+use bg_match::{Number, Record, Standing};
 use bg_processes::{Going, LivenessChange};
 use bg_reports::Ending;
 use bg_table::{Drawing, prompt_text, result_text, seat_view_text};
@@ -85,20 +85,24 @@ impl<'a> Table<'a> {
 
     /// Shows the board, with the names of the players beside the score where they fit.
     fn show_board(&self) -> Result<(), Ending> {
-        let rt = self.rt;
-        let Some(record) = self.seat.record() else {
-            return Ok(());
-        };
-        let columns = self.screen.columns;
-        let drawing = Drawing::fitting(columns);
-        let view = seat_view_text(rt.alloc(), record, self.player, drawing);
-        let mut view = allocated(rt, view)?;
-        let (standing, names) = (record.standing(), &self.seat.names);
-        let score = named_score(rt.alloc(), &standing, names, self.player, columns);
-        if let Some(score) = allocated(rt, score)? {
-            view = allocated(rt, with_score(rt.alloc(), &view, score.as_bytes()))?;
+        match self.seat.record() {
+            Some(record) => {
+                let view = allocated(self.rt, self.view(self.rt.alloc(), record))?;
+                self.screen.show_board(&view, self.player)
+            }
+            None => Ok(()),
         }
-        self.screen.show_board(&view, self.player)
+    }
+
+    /// Returns the player's view of a record, as the screen has room for it.
+    fn view(&self, alloc: Global, record: &Record) -> Result<Vec<u8>, AllocError> {
+        let (player, columns) = (self.player, self.screen.columns);
+        let view = seat_view_text(alloc, record, player, Drawing::fitting(columns))?;
+        let (standing, names) = (record.standing(), &self.seat.names);
+        match named_score(alloc, &standing, names, player, columns)? {
+            Some(score) => with_score(alloc, &view, score.as_bytes()),
+            None => Ok(view),
+        }
     }
 
     /// Shows the only legal turn if there is one, and what the player may do or that their choice
@@ -180,21 +184,31 @@ impl<'a> Table<'a> {
             self.greet()?;
             return Ok(true);
         }
-        let rt = self.rt;
-        let mut text = Vec::new(rt.alloc());
-        written(rt, put_entries(&mut text, record, self.shown))?;
-        let acts = going == Going::Over || self.seat.awaits(self.player);
-        if let Some(before) = &self.stood {
-            let after = record.standing();
-            let told = with_result(rt.alloc(), &text, before, &after, self.player);
-            text = allocated(rt, told)?;
-        }
-        self.screen.print(&text)?;
+        self.screen.print(&self.news(record)?)?;
         self.note_shown();
+        let acts = going == Going::Over || self.seat.awaits(self.player);
         if acts {
             self.show_table()?;
         }
         Ok(acts)
+    }
+
+    /// Returns the lines of the entries of a record that were not shown yet, with the result of a
+    /// game or the match.
+    fn news(&self, record: &Record) -> Result<Vec<u8>, Ending> {
+        let rt = self.rt;
+        let mut text = Vec::new(rt.alloc());
+        written(rt, put_entries(&mut text, record, self.shown))?;
+        match &self.stood {
+            Some(before) => {
+                let after = record.standing();
+                allocated(
+                    rt,
+                    with_result(rt.alloc(), &text, before, &after, self.player),
+                )
+            }
+            None => Ok(text),
+        }
     }
 }
 

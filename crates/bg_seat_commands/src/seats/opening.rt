@@ -42,8 +42,8 @@ impl<'a> Seat<'a> {
         check_seat_folder(rt, folder, player)?;
         let keys = Keyring::OfParty(key);
         let (lock, link) = folder_and_link(rt, folder, table.port, party, keys, failures)?;
-        let (waiting, ticking) = waiting_for(rt, link.descriptor(), with_input)?;
         let process = begun_process(rt, failures, folder, player, &table, link)?;
+        let (waiting, ticking) = waiting_for(rt, process.link().descriptor(), with_input)?;
         let mut seat = Seat {
             rt,
             table,
