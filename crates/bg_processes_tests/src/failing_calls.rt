@@ -1,5 +1,5 @@
 //! Matches over sockets and files of which one call fails.
-use super::loops::counts;
+use super::loops::count_of;
 use crate::checks::check_number;
 use crate::helpers::devices::{keeper, link};
 use crate::helpers::failing_devices::{Calls, Failing};
@@ -9,32 +9,22 @@ use crate::helpers::lasting::lasting;
 use crate::helpers::played_loops::SEED;
 use bg_auto::{LoopFault, PARTIES, run_rounds};
 use bg_match::Rules;
-use bg_processes::FileKeeper;
+use bg_processes::{Failures, FileKeeper};
 use bg_streams::Writing;
 use bg_wire::{REFEREE, SEAT_OF_O, SEAT_OF_X};
 use bg_world::{Keeper, Keepers, Link, Outcome, RestoreCause};
 use std::alloc::Global;
 
-/// The files of a party.
-fn keep<'a, R: Host>(
-    rt: &'a R,
-    folder: &str,
-    party: u8,
-    calls: &'a Calls,
-) -> Failing<'a, FileKeeper<'a, HostRuntime>> {
-    Failing::new(keeper(rt, rt.host(), folder, party, &calls.failures), calls)
-}
-
 /// The files of three parties.
-fn keepers<'a, R: Host>(
-    rt: &'a R,
+fn keepers<'a>(
+    rt: &'a impl Host,
     folder: &str,
-    calls: &'a Calls,
-) -> Keepers<Failing<'a, FileKeeper<'a, HostRuntime>>> {
+    failures: &'a Failures,
+) -> Keepers<FileKeeper<'a, HostRuntime>> {
     Keepers {
-        referee: keep(rt, folder, REFEREE, calls),
-        x: keep(rt, folder, SEAT_OF_X, calls),
-        o: keep(rt, folder, SEAT_OF_O, calls),
+        referee: keeper(rt, rt.host(), folder, REFEREE, failures),
+        x: keeper(rt, rt.host(), folder, SEAT_OF_X, failures),
+        o: keeper(rt, rt.host(), folder, SEAT_OF_O, failures),
     }
 }
 
@@ -46,27 +36,44 @@ fn play_failing(
     text: &mut Vec<u8>,
 ) -> Result<(), LoopFault> {
     let link = link(rt, rt.host(), PARTIES, &calls.failures);
-    let keepers = keepers(rt, folder, calls);
-    play_ten(rt.alloc(), Failing::new(link, calls), keepers, text)
+    let keepers = keepers(rt, folder, &calls.failures);
+    play_ten(rt.alloc(), link, keepers, calls, text)
 }
 
-/// Plays ten rounds over any devices.
+/// Plays ten rounds over any devices, of whose calls one fails.
 fn play_ten<L: Link + Drop, K: Keeper + Drop>(
     alloc: Global,
     link: L,
     keepers: Keepers<K>,
+    calls: &Calls,
     text: &mut Vec<u8>,
 ) -> Result<(), LoopFault> {
+    let link = Failing::new(link, calls);
+    let keepers = Keepers {
+        referee: Failing::new(keepers.referee, calls),
+        x: Failing::new(keepers.x, calls),
+        o: Failing::new(keepers.o, calls),
+    };
     let mut output = Writing::new(text);
     run_rounds(alloc, SEED, 1, Rules::One, 10, link, keepers, &mut output)
 }
 
 /// Whether all parties are up in the end, and none holds more than the referee.
 pub(crate) fn is_sound(text: &[u8]) -> bool {
-    let Some(counts) = counts(text) else {
-        return false;
-    };
-    counts.iter().all(|count| *count <= counts[0])
+    match count_of(text, 0) {
+        Some(most) => holds_up_to(text, 1, most)
+            && holds_up_to(text, 2, most)
+            && holds_up_to(text, 3, most),
+        None => false,
+    }
+}
+
+/// Whether a party is up, and holds no more entries than so many.
+fn holds_up_to(text: &[u8], party: usize, most: u32) -> bool {
+    match count_of(text, party) {
+        Some(count) => count <= most,
+        None => false,
+    }
 }
 
 /// The call of this number fails, in a match of its own. Whether the match came to it.

@@ -1,41 +1,31 @@
 //! What is noted of files and folders that fail.
 use crate::checks::check;
-use crate::helpers::devices::{failures, lasting_stand_in_keeper};
 use crate::helpers::folders::{new_folder, path_in, remove_folder};
 use crate::helpers::hosts::{Host, Hosted};
 use crate::helpers::lasting::lasting_text;
+use crate::helpers::slots::{Slots, read, slots_of, write};
 use crate::helpers::stand_ins::{StandIn, stand_in};
-use crate::helpers::told_failures::check_told;
+use crate::helpers::told_failures::{check_told, failures};
 use bg_processes::Failures;
 use bg_wire::Slot;
-use bg_world::{DeviceFault, Keeper};
+use bg_world::DeviceFault;
 use std::fs;
 use std::process::Abort;
 
-const OK: Result<(), DeviceFault> = Ok(());
+const FAILED: Option<DeviceFault> = Some(DeviceFault::Failed);
 
-const FAILED: Result<(), DeviceFault> = Err(DeviceFault::Failed);
-
-/// What a read came to.
-fn read<K: Keeper>(keeper: &mut K, slot: Slot) -> Result<(), DeviceFault> {
-    match keeper.read(slot) {
-        Ok(_) => Ok(()),
-        Err(fault) => Err(fault),
-    }
-}
-
-/// Writes and reads of both slots come to this: of slot 0, and of slot 1.
-fn check_both<K: Keeper>(
+/// Writes and reads of both slots fail so, or not: of slot 0, and of slot 1.
+fn check_both(
     rt: &impl Abort,
-    keeper: &mut K,
-    zero: Result<(), DeviceFault>,
-    one: Result<(), DeviceFault>,
+    slots: &mut Slots<'_>,
+    zero: Option<DeviceFault>,
+    one: Option<DeviceFault>,
     when: &str,
 ) {
-    check(rt, keeper.write(Slot::Zero, b"zero") == zero, when);
-    check(rt, keeper.write(Slot::One, b"one") == one, when);
-    check(rt, read(keeper, Slot::Zero) == zero, when);
-    check(rt, read(keeper, Slot::One) == one, when);
+    check(rt, write(slots, Slot::Zero, b"zero") == zero, when);
+    check(rt, write(slots, Slot::One, b"one") == one, when);
+    check(rt, read(slots, Slot::Zero) == zero, when);
+    check(rt, read(slots, Slot::One) == one, when);
 }
 
 /// The name of the folder without the control character that it ends with.
@@ -52,33 +42,35 @@ fn a_folder_that_cant_be_synced(rt: HostRuntime) {
 fn check_unsynced(rt: &impl Host) {
     let folder = new_folder(rt, "sync\u{1b}");
     let (files, failures) = (stand_in(rt, 0), failures(rt));
-    let keeper = lasting_stand_in_keeper(rt, files, folder, 1, failures);
-    check_taken_back(rt, keeper, files, failures, folder);
+    let slots = slots_of(rt, files, folder, 1, failures);
+    files.barred.set(folder);
+    check_taken_back(rt, slots, path_in(rt, folder, "party-1.0"));
+    check_unsynced_told(rt, failures, folder);
+    check_synced_once(rt, slots, files, folder);
+    check_told(rt, failures, folder, "");
     remove_folder(rt, folder);
 }
 
-/// What is written to a folder that can't be synced is taken back, and it is noted once.
-fn check_taken_back<'a, K: Keeper>(
-    rt: &impl Host,
-    keeper: &mut K,
+/// While the folder can't be synced, the name of a file may be lost: so what was written to the
+/// file at this path is taken back, and nothing is read.
+fn check_taken_back(rt: &impl Host, slots: &mut Slots<'_>, path: &str) {
+    for when in &["not synced", "not synced again"] {
+        check_both(rt, slots, FAILED, FAILED, when);
+        check(rt, is_empty(rt, path), when);
+    }
+}
+
+/// The folder is synced once for each file, and then no more.
+fn check_synced_once<'a>(
+    rt: &impl Abort,
+    slots: &mut Slots<'_>,
     files: &StandIn<'a>,
-    failures: &Failures,
     folder: &'a str,
 ) {
-    files.barred.set(folder);
-    // The name of the file may be lost: so what was written is taken back, and nothing is read. It
-    // is noted once.
-    for when in ["not synced", "not synced again"] {
-        check_both(rt, keeper, FAILED, FAILED, when);
-        check(rt, is_empty(rt, path_in(rt, folder, "party-1.0")), when);
-    }
-    check_unsynced_told(rt, failures, folder);
-    // Synced once for each file, and then no more.
     files.barred.set("");
-    check_both(rt, keeper, OK, OK, "synced");
+    check_both(rt, slots, None, None, "synced");
     files.barred.set(folder);
-    check_both(rt, keeper, OK, OK, "synced before");
-    check_told(rt, failures, folder, "");
+    check_both(rt, slots, None, None, "synced before");
 }
 
 /// Whether there is a file with no bytes.
@@ -108,17 +100,11 @@ fn check_unopened(rt: &impl Host) {
     let folder = new_folder(rt, "file\n");
     let (files, failures) = (stand_in(rt, 0), failures(rt));
     files.barred.set(path_in(rt, folder, "party-2.1"));
-    let keeper = lasting_stand_in_keeper(rt, files, folder, 2, failures);
-    check_one_fails(rt, keeper);
+    let slots = slots_of(rt, files, folder, 2, failures);
+    check_both(rt, slots, None, FAILED, "one file fails");
+    check_both(rt, slots, None, FAILED, "one file fails again");
     check_unopened_told(rt, failures, folder);
     remove_folder(rt, folder);
-}
-
-/// Writes and reads of slot 1 fail, each time.
-fn check_one_fails<K: Keeper>(rt: &impl Abort, keeper: &mut K) {
-    for when in ["one file fails", "one file fails again"] {
-        check_both(rt, keeper, OK, FAILED, when);
-    }
 }
 
 fn check_unopened_told(rt: &(impl AllocGlobal + Abort), failures: &Failures, folder: &str) {

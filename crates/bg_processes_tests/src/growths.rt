@@ -2,20 +2,19 @@
 //! each in turn.
 use super::failing_calls::is_sound;
 use crate::checks::{check, check_no_growth_is_left};
-use crate::helpers::failing_devices::Calls;
 use crate::helpers::folders::{remove_folder, try_folder};
 use crate::helpers::hosts::{Host, Hosted};
 use crate::helpers::lasting::lasting_text;
 use crate::helpers::played_loops::{SEED, SHORT, played, try_played};
-use crate::helpers::tables::real_devices::{Files, Socket, real_devices};
-use crate::helpers::tables::{Devices, Table};
+use crate::helpers::tables::real_devices::sit_down;
+use crate::helpers::tables::{Devices, Sitting, Table};
 use bg_auto::LoopFault;
 use bg_match::Rules;
 use bg_processes::{
     KeyFile, MatchFile, make_key_secret, make_secret, publish, read_key_secret, read_secret,
 };
 use bg_world::{Keeper, Link, WorldFault};
-use std::alloc::{AllocError, Global};
+use std::alloc::AllocError;
 use std::io::ErrorKind;
 use std::process::Abort;
 use std::{fs, io};
@@ -69,13 +68,23 @@ fn check_files(rt: &impl Host) {
 
 /// Writes each kind of file, and reads those that are read.
 fn write_and_read(rt: &impl Host, folder: &str, file: &MatchFile) -> io::Result<Option<MatchFile>> {
+    write_files(rt, folder, file)?;
+    read_files(rt, folder)
+}
+
+/// Writes each kind of file.
+fn write_files(rt: &impl Host, folder: &str, file: &MatchFile) -> io::Result<()> {
     make_secret(rt.host(), folder)?;
-    read_secret(rt.host(), folder)?;
     make_key_secret(rt.host(), folder)?;
-    write_key(rt, folder, file)?;
-    read_key(rt, folder)?;
-    file.write(rt.host(), folder)?;
+    write_key(rt.host(), folder, file)?;
     publish(rt.host(), try_path(rt, folder, "board")?, b"board")?;
+    file.write(rt.host(), folder)
+}
+
+/// Reads the secret, the key of X, and the match.
+fn read_files(rt: &impl Host, folder: &str) -> io::Result<Option<MatchFile>> {
+    read_secret(rt.host(), folder)?;
+    KeyFile::read(rt.host(), try_path(rt, folder, "match-x")?)?;
     MatchFile::read(rt.host(), try_path(rt, folder, "match")?)
 }
 
@@ -90,15 +99,9 @@ fn try_path(
 }
 
 /// Writes the key of X, by the secret in the folder.
-fn write_key(rt: &impl Host, folder: &str, file: &MatchFile) -> io::Result<()> {
-    let secret = read_key_secret(rt.host(), folder)?;
-    KeyFile::derive(*file, &secret, 1).write(rt.host(), folder)
-}
-
-/// Reads the key of X.
-fn read_key(rt: &impl Host, folder: &str) -> io::Result<()> {
-    KeyFile::read(rt.host(), try_path(rt, folder, "match-x")?)?;
-    Ok(())
+fn write_key(host: &HostRuntime, folder: &str, file: &MatchFile) -> io::Result<()> {
+    let secret = read_key_secret(host, folder)?;
+    KeyFile::derive(*file, &secret, 1).write(host, folder)
 }
 
 /// Processes that lacked memory lose nothing: the match goes on, by the same process or by the
@@ -111,20 +114,23 @@ fn refused_growths_of_processes(rt: HostRuntime) {
 /// A match between processes goes on where memory was refused.
 fn check_processes(rt: &impl Host) {
     let folder = folder_at_last(rt, "process-growths");
-    let calls = Calls::new(0);
-    let devices = real_devices(rt, &calls, folder);
-    let goes_on = plays_some::<Socket<'_>, Files<'_>, _>(rt.alloc(), devices);
-    check(rt, goes_on, "the match goes on");
+    sit_down(rt, &Start {}, folder, Rules::One, 0);
     remove_at_last(rt, folder);
     check_no_growth_is_left(rt);
 }
 
-/// Whether a match over these devices goes on until the watcher holds three entries.
-fn plays_some<L: Link + Drop, K: Keeper + Drop, D: Devices<L, K> + Drop>(
-    alloc: Global,
-    devices: D,
-) -> bool {
-    Table::new(alloc, devices, Rules::One).play_some(3)
+/// A match until the watcher holds three entries.
+#[derive(Drop)]
+struct Start {}
+
+impl Sitting for Start {
+    fn sit<R: Host, L: Link + Drop, K: Keeper + Drop, D: Devices<L, K> + Drop>(
+        &self,
+        rt: &R,
+        table: &mut Table<D, L, K>,
+    ) {
+        check(rt, table.play_some(3), "the match goes on");
+    }
 }
 
 /// Whether a match ended for want of memory; the output of these tests is in memory too.

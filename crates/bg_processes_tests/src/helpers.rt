@@ -9,6 +9,7 @@ pub(crate) mod party_scripts;
 pub(crate) mod played_loops;
 pub(crate) mod saved_records;
 mod script_words;
+pub(crate) mod slots;
 pub(crate) mod stand_ins;
 pub(crate) mod tables;
 pub(crate) mod told_failures;

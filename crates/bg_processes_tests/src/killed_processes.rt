@@ -1,12 +1,32 @@
 //! Matches between processes, each ended and begun again at random.
-use crate::helpers::failing_devices::Calls;
 use crate::helpers::folders::{new_folder, remove_folder};
 use crate::helpers::hosts::Host;
-use crate::helpers::lasting::lasting;
-use crate::helpers::tables::real_devices::{Files, Socket, real_devices};
-use crate::helpers::tables::{Devices, Table, check_end};
+use crate::helpers::tables::real_devices::sit_down;
+use crate::helpers::tables::{Devices, Sitting, Table, check_end};
 use bg_match::Rules;
 use bg_world::{Keeper, Link};
+
+/// A match by these rules over devices that save in a folder. About one turn in so many ends a
+/// process.
+#[derive(Drop)]
+struct Kills<'a> {
+    folder: &'a str,
+    rules: Rules,
+    seed: u32,
+    kills: u32,
+}
+
+impl<'a> Sitting for Kills<'a> {
+    /// The match ends for everybody as for the referee.
+    fn sit<R: Host, L: Link + Drop, K: Keeper + Drop, D: Devices<L, K> + Drop>(
+        &self,
+        rt: &R,
+        table: &mut Table<D, L, K>,
+    ) {
+        let ends = table.play(self.seed, self.kills);
+        check_end(rt, self.folder, self.rules, ends, table.watched());
+    }
+}
 
 /// Matches whose processes end at random, about one turn in so many, and of each of which one call
 /// fails, counted from the first; of call 0 there is none.
@@ -20,24 +40,13 @@ fn check_matches(rt: &impl Host, name: &str, rules: Rules, kills: u32, calls: &[
 
 /// A match of which a call fails.
 fn check_match(rt: &impl Host, folder: &str, rules: Rules, kills: u32, failing: u32) {
-    let calls: &Calls = lasting(rt, Calls::new(failing));
-    let devices = real_devices(rt, calls, folder);
-    let seed = failing.wrapping_add(kills);
-    check_played::<Socket<'_>, Files<'_>, _>(rt, devices, folder, rules, seed, kills);
-}
-
-/// The match over these devices, which save in the folder, ends for everybody as for the referee.
-fn check_played<L: Link + Drop, K: Keeper + Drop, D: Devices<L, K> + Drop>(
-    rt: &impl Host,
-    devices: D,
-    folder: &str,
-    rules: Rules,
-    seed: u32,
-    kills: u32,
-) {
-    let mut table = Table::new(rt.alloc(), devices, rules);
-    let ends = table.play(seed, kills);
-    check_end(rt, folder, rules, ends, table.watched());
+    let kills = Kills {
+        folder,
+        rules,
+        seed: failing.wrapping_add(kills),
+        kills,
+    };
+    sit_down(rt, &kills, folder, rules, failing);
 }
 
 #[test]

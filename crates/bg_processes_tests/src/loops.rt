@@ -1,14 +1,13 @@
 //! Matches over sockets and files.
 use crate::checks::{check, check_number};
-use crate::helpers::folders::{new_folder, path_in, remove_folder};
-use crate::helpers::hosts::{Host, Hosted};
+use crate::helpers::folders::{new_folder, path_in, remove_folder, write_file};
+use crate::helpers::hosts::Host;
 use crate::helpers::played_loops::{SEED, SHORT, played, try_played};
 use crate::helpers::saved_records::{saved_record, text_of};
 use bg_auto::{LoopFault, sim_text};
 use bg_match::{Entry, Number, Record, Rules, Terms};
 use bg_wire::REFEREE;
 use bg_world::{Outcome, RestoreCause};
-use std::fs;
 use std::process::Abort;
 
 const AT_THE_START: &str = "party 0: 0 entries
@@ -38,17 +37,11 @@ fn begins_with(record: &Record, earlier: &Record) -> bool {
     begins
 }
 
-/// How many entries each party holds by the final text; `None` where a party is down.
-pub(crate) fn counts(text: &[u8]) -> Option<[u32; 4]> {
-    let mut counts = [0; 4];
-    let mut lines = text.split(|byte| *byte == b'\n');
-    for party in 0..4 {
-        let line = str::from_utf8(lines.next()?).ok()?;
-        let (_, rest) = line.split_once(": ")?;
-        let count = rest.strip_suffix(" entries")?;
-        counts[party] = count.parse().ok()?;
-    }
-    Some(counts)
+/// How many entries a party holds by the final text; `None` where it is down.
+pub(crate) fn count_of(text: &[u8], party: usize) -> Option<u32> {
+    let line = str::from_utf8(text).ok()?.lines().nth(party)?;
+    let (_, count) = line.split_once(": ")?;
+    count.strip_suffix(" entries")?.parse().ok()
 }
 
 #[test]
@@ -67,7 +60,7 @@ fn check_no_rounds(rt: &impl Host) {
 /// Plays forty rounds, and gives what the referee saved.
 fn after_forty<'a>(rt: &impl Host, folder: &str) -> &'a Record {
     let text = played(rt, folder, SEED, SHORT, 40);
-    let has_some = counts(text).is_some_and(|counts| counts[0] >= 3);
+    let has_some = count_of(text, 0).is_some_and(|count| count >= 3);
     check(rt, has_some, "three entries of the referee");
     saved_record(rt, folder, REFEREE, SEED, SHORT)
 }
@@ -155,7 +148,7 @@ fn check_other_files(rt: &impl Host) {
     played(rt, folder, SEED, SHORT, 10);
     check_stops(rt, folder, SEED + 1, RestoreCause::WrongMatch);
     for file in ["party-0.0", "party-0.1"] {
-        fs::write(rt.host(), path_in(rt, folder, file), [0x42]).expect(rt, "a file is written");
+        write_file(rt, path_in(rt, folder, file), &[0x42]);
     }
     check_stops(rt, folder, SEED, RestoreCause::Damaged);
     remove_folder(rt, folder);

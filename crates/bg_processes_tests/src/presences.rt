@@ -1,10 +1,10 @@
 //! How the other seat stands, as the referee's socket tells a seat of it.
 use crate::checks::check_number;
-use crate::helpers::devices::failures;
 use crate::helpers::hosts::{Host, Hosted};
 use crate::helpers::lasting::lasting;
 use crate::helpers::party_scripts::{SetClock, check_script, takes};
 use crate::helpers::tables::real_devices::{free_port, keys_of};
+use crate::helpers::told_failures::failures;
 use bg_processes::PartySocket;
 use std::net::{Ipv4Addr, UdpSocket};
 

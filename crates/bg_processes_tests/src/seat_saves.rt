@@ -1,10 +1,8 @@
 //! When a seat saves: each claim at once, and its answer with the next claim, or at a tick.
-use crate::helpers::failing_devices::Calls;
 use crate::helpers::folders::{new_folder, remove_folder};
 use crate::helpers::hosts::Host;
-use crate::helpers::lasting::lasting;
-use crate::helpers::tables::real_devices::{Files, Socket, real_devices};
-use crate::helpers::tables::{Devices, Table};
+use crate::helpers::tables::real_devices::sit_down;
+use crate::helpers::tables::{Devices, Sitting, Table};
 use crate::helpers::words::{number, word};
 use bg_auto::Observer;
 use bg_match::{Number, Rules};
@@ -65,29 +63,28 @@ o ends 5 6
 o ends 5 6
 ";
 
-/// A table of these devices comes through rows.
-fn check_table<L: Link + Drop, K: Keeper + Drop, D: Devices<L, K> + Drop>(
-    rt: &(impl AllocGlobal + Abort),
-    devices: D,
-    rows: &str,
-) {
-    check_rows(rt, &mut Table::new(rt.alloc(), devices, Rules::One), rows);
+/// What parties do in turn, by rows.
+#[derive(Drop)]
+struct Steps<'a> {
+    rows: &'a str,
 }
 
-/// Rows end the test where a party does something else, or O has saved more or less.
-fn check_rows<L: Link + Drop, K: Keeper + Drop, D: Devices<L, K> + Drop>(
-    rt: &impl Abort,
-    table: &mut Table<D, L, K>,
-    rows: &str,
-) {
-    let mut saves = Saves {
-        made: 0,
-        entries: 0,
-    };
-    for row in rows.lines() {
-        if !row.starts_with('#') {
-            let is_done = table.step(word(rt, row, 0), word(rt, row, 1), &mut saves);
-            check_saved(rt, row, is_done, saves.made, saves.entries);
+impl<'a> Sitting for Steps<'a> {
+    /// Rows end the test where a party does something else, or O has saved more or less.
+    fn sit<R: Host, L: Link + Drop, K: Keeper + Drop, D: Devices<L, K> + Drop>(
+        &self,
+        rt: &R,
+        table: &mut Table<D, L, K>,
+    ) {
+        let mut saves = Saves {
+            made: 0,
+            entries: 0,
+        };
+        for row in self.rows.lines() {
+            if !row.starts_with('#') {
+                let is_done = table.step(word(rt, row, 0), word(rt, row, 1), &mut saves);
+                check_saved(rt, row, is_done, saves.made, saves.entries);
+            }
         }
     }
 }
@@ -103,8 +100,7 @@ fn check_saved(rt: &impl Abort, row: &str, is_done: bool, made: u32, entries: Nu
 /// The rows of a match in a folder of its own.
 fn check_saves(rt: &impl Host, name: &str, rows: &str) {
     let folder = new_folder(rt, name);
-    let calls: &Calls = lasting(rt, Calls::new(0));
-    check_table::<Socket<'_>, Files<'_>, _>(rt, real_devices(rt, calls, folder), rows);
+    sit_down(rt, &Steps { rows }, folder, Rules::One, 0);
     remove_folder(rt, folder);
 }
 

@@ -1,12 +1,13 @@
 //! Which file has what: single calls of the files of a match, and the first rounds.
 use crate::checks::{check, check_number};
-use crate::helpers::devices::{failures, lasting_keeper, lasting_stand_in_keeper};
 use crate::helpers::folders::{new_folder, path_in, remove_folder};
 use crate::helpers::hosts::{Host, Hosted};
 use crate::helpers::played_loops::{SEED, SHORT, played};
+use crate::helpers::slots::{Slots, has, read, slots_of, write};
 use crate::helpers::stand_ins::{StandIn, stand_in};
+use crate::helpers::told_failures::failures;
 use bg_wire::{Slot, load};
-use bg_world::{DeviceFault, Keeper};
+use bg_world::DeviceFault;
 use std::alloc::Global;
 use std::io::ErrorKind;
 use std::process::Abort;
@@ -36,22 +37,17 @@ fn check_file(rt: &impl Host, folder: &str, name: &str, bytes: Option<&[u8]>) {
     check(rt, has, name);
 }
 
-/// Whether a slot has these bytes.
-fn reads<K: Keeper>(keeper: &mut K, slot: Slot, bytes: &[u8]) -> bool {
-    match keeper.read(slot) {
-        Ok(found) => found.as_slice() == bytes,
-        Err(_) => false,
-    }
-}
-
 /// The slots have these bytes.
-fn check_slots<K: Keeper>(rt: &impl Abort, keeper: &mut K, zero: &[u8], one: &[u8], when: &str) {
-    let have = reads(keeper, Slot::Zero, zero) && reads(keeper, Slot::One, one);
-    check(rt, have, when);
+fn check_slots(rt: &impl Abort, slots: &mut Slots<'_>, zero: &[u8], one: &[u8], when: &str) {
+    check(
+        rt,
+        has(slots, Slot::Zero, zero) && has(slots, Slot::One, one),
+        when,
+    );
 }
 
-fn check_writes<K: Keeper>(rt: &impl Abort, keeper: &mut K, slot: Slot, bytes: &[u8], what: &str) {
-    check(rt, keeper.write(slot, bytes) == Ok(()), what);
+fn check_writes(rt: &impl Abort, slots: &mut Slots<'_>, slot: Slot, bytes: &[u8], what: &str) {
+    check(rt, write(slots, slot, bytes).is_none(), what);
 }
 
 /// A folder has so many files.
@@ -88,8 +84,8 @@ fn files_of_slots(rt: HostRuntime) {
 fn check_all_files(rt: &impl Host) {
     let folder = new_folder(rt, "files-of-slots");
     for (party, zero, one) in FILES {
-        let keeper = lasting_keeper(rt, folder, party, failures(rt));
-        check_files(rt, keeper, folder, party, zero, one);
+        let slots = slots_of(rt, stand_in(rt, 0), folder, party, failures(rt));
+        check_files(rt, slots, folder, party, zero, one);
     }
     check_count(rt, folder, 6);
     remove_folder(rt, folder);
@@ -97,25 +93,25 @@ fn check_all_files(rt: &impl Host) {
 
 /// The writes of a party, and what its files have after each; of slot 0 nothing before it was
 /// written.
-fn check_files<K: Keeper>(
+fn check_files(
     rt: &impl Host,
-    keeper: &mut K,
+    slots: &mut Slots<'_>,
     folder: &str,
     party: u8,
     zero: &str,
     one: &str,
 ) {
     let (long, own, short) = (b"the longer text", [party], b"text");
-    check_slots(rt, keeper, b"", b"", "nothing is written yet");
-    check_writes(rt, keeper, Slot::One, long, "the longer text");
-    check_slots(rt, keeper, b"", long, "the longer text is written");
+    check_slots(rt, slots, b"", b"", "nothing is written yet");
+    check_writes(rt, slots, Slot::One, long, "the longer text");
+    check_slots(rt, slots, b"", long, "the longer text is written");
     check_file(rt, folder, zero, None);
     check_file(rt, folder, one, Some(long));
-    check_writes(rt, keeper, Slot::Zero, &own, "a byte");
-    check_slots(rt, keeper, &own, long, "both are written");
+    check_writes(rt, slots, Slot::Zero, &own, "a byte");
+    check_slots(rt, slots, &own, long, "both are written");
     check_both(rt, folder, (zero, &own), (one, long));
-    check_writes(rt, keeper, Slot::One, short, "the shorter text");
-    check_slots(rt, keeper, &own, short, "the shorter text is written");
+    check_writes(rt, slots, Slot::One, short, "the shorter text");
+    check_slots(rt, slots, &own, short, "the shorter text is written");
     check_both(rt, folder, (zero, &own), (one, short));
 }
 
@@ -135,33 +131,33 @@ fn files_that_fail(rt: HostRuntime) {
 fn check_failing(rt: &impl Host) {
     let folder = new_folder(rt, "files-that-fail");
     let files = stand_in(rt, 0);
-    let keeper = lasting_stand_in_keeper(rt, files, folder, 1, failures(rt));
-    check_opened_late(rt, keeper, files, folder);
+    let slots = slots_of(rt, files, folder, 1, failures(rt));
+    check_opened_late(rt, slots, files, folder);
     remove_folder(rt, folder);
 }
 
 /// Reads and writes fail while no file can be opened.
-fn check_opened_late<K: Keeper>(rt: &impl Host, keeper: &mut K, files: &StandIn<'_>, folder: &str) {
-    for (kind, fault, what) in FAULTS {
+fn check_opened_late(rt: &impl Host, slots: &mut Slots<'_>, files: &StandIn<'_>, folder: &str) {
+    for &(kind, fault, what) in FAULTS {
         fail_as(files, io::Error::from(kind));
-        check(rt, fails(keeper, fault), what);
+        check(rt, fails(slots, fault), what);
     }
     // A file that is missing is none that fails: it has no bytes.
     fail_as(files, io::Error::from(ErrorKind::NotFound));
-    check_slots(rt, keeper, b"", b"", "missing files");
+    check_slots(rt, slots, b"", b"", "missing files");
     check_count(rt, folder, 0);
     files.files_fail.set(None);
-    check_writes(rt, keeper, Slot::One, b"text", "files that are opened");
+    check_writes(rt, slots, Slot::One, b"text", "files that are opened");
     check_file(rt, folder, "party-1.1", Some(b"text"));
 }
 
 /// Whether a write and a read fail so.
-fn fails<K: Keeper>(keeper: &mut K, fault: DeviceFault) -> bool {
-    keeper.write(Slot::One, b"text") == Err(fault) && keeper.read(Slot::One).err() == Some(fault)
+fn fails(slots: &mut Slots<'_>, fault: DeviceFault) -> bool {
+    write(slots, Slot::One, b"text") == Some(fault) && read(slots, Slot::One) == Some(fault)
 }
 
 /// Why no file is opened, and the fault that this is.
-const FAULTS: [(ErrorKind, DeviceFault, &str); 3] = [
+const FAULTS: &[(ErrorKind, DeviceFault, &str)] = &[
     (
         ErrorKind::OutOfMemory,
         DeviceFault::Memory,
@@ -191,20 +187,20 @@ fn faults_of_devices(rt: HostRuntime) {
 /// The files of a party over what stands in for the system.
 fn check_faults(rt: &impl Host) {
     let files = stand_in(rt, 0);
-    let keeper = lasting_stand_in_keeper(rt, files, ".", 1, failures(rt));
-    check_numbers(rt, keeper, files);
+    let slots = slots_of(rt, files, ".", 1, failures(rt));
+    check_numbers(rt, slots, files);
 }
 
 /// Each number has its fault.
-fn check_numbers<K: Keeper>(rt: &impl Abort, keeper: &mut K, files: &StandIn<'_>) {
-    for number in [12, 1, 2, 5, 24, 28, 30, 98, 105, 111] {
+fn check_numbers(rt: &impl Abort, slots: &mut Slots<'_>, files: &StandIn<'_>) {
+    for &number in &[12, 1, 2, 5, 24, 28, 30, 98, 105, 111] {
         fail_as(files, io::Error::from_raw_os_error(number));
         let fault = if number == 12 {
             DeviceFault::Memory
         } else {
             DeviceFault::Failed
         };
-        let is_so = keeper.write(Slot::Zero, b"text") == Err(fault);
+        let is_so = write(slots, Slot::Zero, b"text") == Some(fault);
         check_number(rt, "error", number as u64, is_so);
     }
 }

@@ -4,7 +4,6 @@
 mod etcd;
 mod failures;
 mod folder_locks;
-mod helpers;
 mod key_files;
 mod key_texts;
 mod keyrings;

@@ -1,19 +1,18 @@
 //! Single calls of the sockets of a match.
 use crate::checks::{check, check_number};
-use crate::helpers::devices::{failures, lasting_link};
-use crate::helpers::folders::new_folder;
+use crate::helpers::devices::lasting_link;
+use crate::helpers::folders::{new_folder, remove_empty};
 use crate::helpers::hosts::{Host, Hosted};
 use crate::helpers::lasting::lasting;
 use crate::helpers::party_scripts::{sends, takes};
 use crate::helpers::stand_ins::{StandIn, stand_in};
-use crate::helpers::told_failures::check_told;
+use crate::helpers::told_failures::{check_told, failures};
 use crate::helpers::words::number;
 use bg_auto::LoopFault;
 use bg_match::Rules;
 use bg_processes::{Failures, UdpLink, run_loop};
 use bg_streams::Writing;
 use bg_world::Link;
-use std::fs;
 use std::net::{IpAddr, Ipv4Addr, Net, SocketAddr, UdpSocket};
 use std::process::Abort;
 
@@ -204,7 +203,7 @@ fn check_first(rt: &impl Host) {
         check_number(rt, "length", length.into(), is_so);
     }
     // It is empty: else it is not removed so.
-    fs::remove_dir(rt.host(), folder).expect(rt, "an empty folder");
+    remove_empty(rt, folder);
 }
 
 /// Why no match of this length is played over these sockets.

@@ -1,13 +1,13 @@
 //! Sockets of a match among those of others, and what is noted of sockets that fail.
 use crate::checks::{check, check_number};
-use crate::helpers::devices::{failures, lasting_link};
+use crate::helpers::devices::{lasting_link, stranger};
 use crate::helpers::folders::{new_folder, remove_folder};
 use crate::helpers::hosts::{Host, Hosted};
 use crate::helpers::lasting::lasting;
 use crate::helpers::party_scripts::sends;
 use crate::helpers::played_loops::{SEED, SHORT, played};
 use crate::helpers::stand_ins::{StandIn, stand_in};
-use crate::helpers::told_failures::told;
+use crate::helpers::told_failures::{failures, told};
 use bg_auto::{LoopFault, Observer};
 use bg_match::{Number, Rules};
 use bg_processes::{Failures, UdpLink, play_loop};
@@ -67,12 +67,6 @@ impl<'a> Observer for Forger<'a> {
     }
 
     fn played(&mut self, _done: u32) {}
-}
-
-/// A socket that no party has, which lasts as long as the process.
-fn stranger<'a>(rt: &impl Host) -> &'a UdpSocket {
-    let socket = UdpSocket::bind(rt.host(), (Ipv4Addr::LOCALHOST, 0));
-    lasting(rt, socket.expect(rt, "a socket"))
 }
 
 /// What is printed of sixty rounds, while a forger sends to each party after each event.

@@ -2,13 +2,17 @@
 use bg_board::Board;
 use std::process::Abort;
 
-/// How many checkers stand on a point, as "24:2".
-fn place(rt: &impl Abort, word: &str) -> (usize, u8) {
-    let (point, count) = word.split_once(':').expect(rt, "a point and a count");
-    (
-        point.parse().expect(rt, "a point"),
-        count.parse().expect(rt, "a count"),
-    )
+fn number(rt: &impl Abort, word: &str) -> u8 {
+    word.parse().expect(rt, word)
+}
+
+/// Puts so many of the checkers that are off on a point, as "24:2".
+fn place(rt: &impl Abort, counts: &mut [u8; 26], word: &str) {
+    let (point, count) = word.split_once(':').expect(rt, word);
+    let count = number(rt, count);
+    counts[0] = counts[0].checked_sub(count).expect(rt, word);
+    let place = counts.get_mut(usize::from(number(rt, point)));
+    *place.expect(rt, word) = count;
 }
 
 /// Where a player's checkers stand, in his own numbering, as "24:2 13:5 8:3 6:5", where 25 is the
@@ -17,10 +21,7 @@ pub(crate) fn counts(rt: &impl Abort, words: &str) -> [u8; 26] {
     let mut counts = [0; 26];
     counts[0] = 15;
     for word in words.split(' ') {
-        let (point, count) = place(rt, word);
-        assert!(rt; point < 26 && count <= counts[0], "{words}");
-        counts[0] -= count;
-        counts[point] = count;
+        place(rt, &mut counts, word);
     }
     counts
 }

@@ -2,17 +2,11 @@
 
 use crate::helpers::hosts::{Host, Hosted};
 use crate::helpers::lasting::lasting;
-use crate::helpers::stand_ins::StandIn;
 use bg_processes::{Failures, FileKeeper, UdpLink};
 use std::fs::File;
-use std::net::Net;
+use std::net::{Ipv4Addr, Net, UdpSocket};
 use std::process::Abort;
 use std::rt::Files;
-
-/// What devices note of failures.
-pub(crate) fn failures<'a>(rt: &(impl AllocGlobal + Abort)) -> &'a Failures {
-    lasting(rt, Failures::new())
-}
 
 /// The files of a party.
 pub(crate) fn keeper<'a, R: Files<File = File> + AllocGlobal>(
@@ -23,27 +17,6 @@ pub(crate) fn keeper<'a, R: Files<File = File> + AllocGlobal>(
     failures: &'a Failures,
 ) -> FileKeeper<'a, R> {
     FileKeeper::new(files, folder, party, failures).expect(rt, "the files of a party")
-}
-
-/// The files of a party over the system's, for as long as the process runs.
-pub(crate) fn lasting_keeper<'a>(
-    rt: &'a impl Host,
-    folder: &str,
-    party: u8,
-    failures: &'a Failures,
-) -> &'a mut FileKeeper<'a, HostRuntime> {
-    lasting(rt, keeper(rt, rt.host(), folder, party, failures))
-}
-
-/// The same over what stands in for the system.
-pub(crate) fn lasting_stand_in_keeper<'a>(
-    rt: &(impl AllocGlobal + Abort),
-    files: &'a StandIn<'a>,
-    folder: &str,
-    party: u8,
-    failures: &'a Failures,
-) -> &'a mut FileKeeper<'a, StandIn<'a>> {
-    lasting(rt, keeper(rt, files, folder, party, failures))
 }
 
 /// The sockets of so many parties.
@@ -64,4 +37,10 @@ pub(crate) fn lasting_link<'a>(
     failures: &'a Failures,
 ) -> &'a mut UdpLink<'a> {
     lasting(rt, link(rt, net, parties, failures))
+}
+
+/// A socket that no party has, which lasts as long as the process.
+pub(crate) fn stranger<'a>(rt: &impl Host) -> &'a UdpSocket {
+    let socket = UdpSocket::bind(rt.host(), (Ipv4Addr::LOCALHOST, 0));
+    lasting(rt, socket.expect(rt, "a socket"))
 }

@@ -15,11 +15,11 @@
 //! - "# ..": a comment.
 
 use crate::checks::{check, check_number};
-use crate::helpers::devices::failures;
 use crate::helpers::hosts::{Host, Hosted};
 use crate::helpers::lasting::lasting;
 use crate::helpers::script_words::{packet_of, presence_of};
 use crate::helpers::tables::real_devices::{free_port, keys_of};
+use crate::helpers::told_failures::failures;
 use crate::helpers::words::{number, small_number, word};
 use arrayvec::ArrayVec;
 use bg_processes::{Failures, PartySocket};

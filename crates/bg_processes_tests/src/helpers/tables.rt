@@ -6,6 +6,7 @@ mod processes;
 pub(crate) mod real_devices;
 mod saved_matches;
 
+use crate::helpers::hosts::Host;
 use crate::helpers::played_loops::SHORT;
 use crate::helpers::tables::processes::Running;
 use bg_auto::{NoObserver, Observer};
@@ -47,6 +48,15 @@ pub(crate) struct Table<D, L, K> {
     running: Running<L, K>,
 }
 
+/// What a test does at a table, whatever the devices are.
+pub(crate) trait Sitting {
+    fn sit<R: Host, L: Link + Drop, K: Keeper + Drop, D: Devices<L, K> + Drop>(
+        &self,
+        rt: &R,
+        table: &mut Table<D, L, K>,
+    );
+}
+
 /// The terms of a match by these rules.
 pub(crate) fn terms_by(rules: Rules) -> Terms {
     Terms { rules, ..SHORT }
@@ -64,18 +74,8 @@ impl<L: Link + Drop, K: Keeper + Drop, D: Devices<L, K> + Drop> Table<D, L, K> {
 
     /// A party begins where it does not run, unless its devices can't be had now.
     fn begin(&mut self, party: u8) {
-        if self.running.runs(party) {
-            return;
-        }
-        let Some(link) = self.devices.link(party) else {
-            return;
-        };
-        if party == WATCHER {
-            self.running.begin_watcher(self.alloc, self.terms, link);
-        } else if let Some(keeper) = self.devices.keeper(party) {
-            self.running
-                .begin(self.alloc, party, self.terms, link, keeper);
-        }
+        self.running
+            .begin(self.alloc, party, self.terms, &self.devices);
     }
 
     /// A round of a party, which begins first where it does not run. Whether the match is over for

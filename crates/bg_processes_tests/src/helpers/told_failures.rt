@@ -1,12 +1,16 @@
 //! What devices noted, as lines of words.
 
 use crate::checks::check;
-use crate::helpers::lasting::lasting_text;
+use crate::helpers::lasting::{lasting, lasting_text};
 use bg_system::Failures;
 use std::alloc::AllocError;
 use std::process::Abort;
 
-/// Takes the failures out: a line for each, of devices over this folder.
+/// What devices note of their failures, for as long as the process runs.
+pub(crate) fn failures<'a>(rt: &(impl AllocGlobal + Abort)) -> &'a Failures {
+    lasting(rt, Failures::new())
+}
+
 fn write_lines(text: &mut String, failures: &Failures, folder: &str) -> Result<(), AllocError> {
     for failure in failures.drain() {
         writeln!(text, "{}", failure.in_folder(folder))?;
@@ -14,7 +18,7 @@ fn write_lines(text: &mut String, failures: &Failures, folder: &str) -> Result<(
     Ok(())
 }
 
-/// The same, where there is memory.
+/// Takes the failures out: a line for each, of devices over this folder.
 pub(crate) fn told(
     rt: &(impl AllocGlobal + Abort),
     failures: &Failures,

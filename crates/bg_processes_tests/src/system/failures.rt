@@ -1,6 +1,6 @@
 //! What devices note of their failures, until it is taken out.
 use crate::checks::{check, check_number};
-use crate::system::helpers::{check_told, failures};
+use crate::helpers::told_failures::{check_told, failures};
 use bg_system::{DrainedFailures, FailedCall, Failures, FirstFailures, SlotName};
 use bg_wire::Slot;
 use std::io;

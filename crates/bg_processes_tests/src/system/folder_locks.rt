@@ -1,6 +1,7 @@
 //! The lock of a folder.
 use crate::checks::check;
-use crate::system::helpers::{Host, make_folder, new_folder, path_in, remove_empty, remove_folder};
+use crate::helpers::folders::{make_folder, new_folder, path_in, remove_empty, remove_folder};
+use crate::helpers::hosts::{Host, Hosted};
 use bg_system::FolderLock;
 use std::fs::TryLockError;
 use std::io::ErrorKind;

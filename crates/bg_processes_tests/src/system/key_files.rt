@@ -1,8 +1,7 @@
 //! Key files, and the secret that their keys are derived from.
 use crate::checks::{check, check_number, is_printed};
-use crate::system::helpers::{
-    Host, bytes_in, mode_of, new_folder, path_in, remove_folder, write_file,
-};
+use crate::helpers::folders::{bytes_in, mode_of, new_folder, path_in, remove_folder, write_file};
+use crate::helpers::hosts::{Host, Hosted};
 use crate::system::key_texts::{BAD, GOOD, is_good};
 use crate::system::seals::keys::{SECRET, key_of, secret};
 use bg_match::{Rules, Terms};

@@ -1,7 +1,8 @@
 //! What goes between parties by their keys, and which datagrams count.
 use crate::checks::check;
+use crate::helpers::words::{small_number, word};
 use crate::system::seals::keys::{key_of, secret};
-use crate::system::words::{bytes_of, small_number, word};
+use crate::system::words::bytes_of;
 use bg_seals::{Key, MOST_PACKET_BYTES, SealedDatagram};
 use bg_system::{Keyring, heard};
 use std::net::{Ipv4Addr, SocketAddr};

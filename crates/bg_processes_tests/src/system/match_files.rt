@@ -1,8 +1,7 @@
 //! Match files, secrets, and files that are there whole.
 use crate::checks::{check, is_printed};
-use crate::system::helpers::{
-    Host, bytes_in, mode_of, new_folder, path_in, remove_folder, write_file,
-};
+use crate::helpers::folders::{bytes_in, mode_of, new_folder, path_in, remove_folder, write_file};
+use crate::helpers::hosts::{Host, Hosted};
 use bg_match::{Rules, Terms};
 use bg_system::{HIGHEST_PORT, LOWEST_PORT, MatchFile, make_secret, publish, read_secret};
 use std::io::ErrorKind;

@@ -1,6 +1,8 @@
 //! Match files and key files with the names of players, and their texts.
 use crate::checks::{check, is_printed};
-use crate::system::helpers::{Host, lasting_text, path_in};
+use crate::helpers::folders::path_in;
+use crate::helpers::hosts::{Host, Hosted};
+use crate::helpers::lasting::lasting_text;
 use crate::system::seals::keys::secret;
 use bg_match::{Rules, Terms};
 use bg_system::{KeyFile, KeyFiles, MatchFile, Name, NamedMatch, Names};

@@ -1,6 +1,7 @@
 //! The names of players, and the match files and key files that have them.
 use crate::checks::{check, check_number, is_printed};
-use crate::system::helpers::{Host, new_folder, remove_folder};
+use crate::helpers::folders::{new_folder, remove_folder};
+use crate::helpers::hosts::Host;
 use crate::system::named_files::{
     KEY, NAMED, NOT_NAMED, TABLE, check_key_file, check_match_file, check_no_key_file,
     check_no_match_file, check_written, check_written_key, is_named, name_of, named_keys, names_of,

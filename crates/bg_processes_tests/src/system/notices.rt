@@ -1,7 +1,8 @@
 //! What a seat is told of the other one, and which datagrams count.
 use crate::checks::check;
+use crate::helpers::words::{small_number, word};
 use crate::system::keyrings::{PORT, address, heard_by, keys_of, party, referee, sealed};
-use crate::system::words::{bytes_of, port, small_number, word};
+use crate::system::words::{bytes_of, port};
 use bg_system::{Keyring, Presence, SIGN_OF_LIFE, told};
 use std::net::{Ipv4Addr, SocketAddr};
 use std::process::Abort;

@@ -1,8 +1,10 @@
 //! A socket takes what it sends itself, and nothing else.
 use crate::checks::check;
-use crate::system::helpers::{Host, lasting};
+use crate::helpers::devices::stranger;
+use crate::helpers::hosts::{Host, Hosted};
+use crate::helpers::lasting::lasting;
 use bg_system::OwnSocket;
-use std::net::{Ipv4Addr, SocketAddr, UdpSocket};
+use std::net::{SocketAddr, UdpSocket};
 use std::process::Abort;
 
 /// A socket, which lasts as long as the process.
@@ -56,11 +58,6 @@ fn stray(stranger: &UdpSocket, bytes: &[u8], times: u32, to: SocketAddr) {
     for _ in 0..times {
         let _ = stranger.send_to(bytes, to);
     }
-}
-
-fn stranger<'a>(rt: &impl Host) -> &'a UdpSocket {
-    let socket = UdpSocket::bind(rt.host(), (Ipv4Addr::LOCALHOST, 0));
-    lasting(rt, socket.expect(rt, "a socket"))
 }
 
 /// A socket that hears itself alone from now on, to which a stranger sent before.

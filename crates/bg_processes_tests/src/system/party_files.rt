@@ -1,9 +1,12 @@
 //! The files of a party: what is away is not empty, and what was not there before is.
 use crate::checks::check;
-use crate::system::helpers::{
-    Host, check_told, failures, lasting_text, make_folder, mode_of, new_folder, path_in,
-    remove_empty, remove_file, remove_folder, rename, told, write_file,
+use crate::helpers::folders::{
+    make_folder, mode_of, new_folder, path_in, remove_empty, remove_file, remove_folder, rename,
+    write_file,
 };
+use crate::helpers::hosts::{Host, Hosted};
+use crate::helpers::lasting::lasting_text;
+use crate::helpers::told_failures::{check_told, failures, told};
 use crate::system::slots::{Files, check_away, check_fails, check_have, check_writes, files_of};
 use bg_system::Failures;
 use bg_wire::Slot;
@@ -127,9 +130,9 @@ fn check_missing_file(rt: &impl Host) {
     check_have(rt, own, b"", b"one", "one file");
     remove_file(rt, path);
     // As often as it is asked for, the slot is neither empty nor written anew.
-    for when in ["missing", "still missing"] {
-        check_fails(rt, own, Slot::One, ErrorKind::NotFound, when);
-    }
+    let missing = ErrorKind::NotFound;
+    check_fails(rt, own, Slot::One, missing, "missing");
+    check_fails(rt, own, Slot::One, missing, "still missing");
     check_told(rt, noted, "DIR", MISSING);
     check_writes(rt, own, Slot::Zero, "zero");
     write_file(rt, path, b"put back");
@@ -168,8 +171,11 @@ fn modes_of_slot_files(rt: HostRuntime) {
 
 fn check_modes(rt: &impl Host) {
     let folder = written_folder(rt, "modes");
-    for name in ["party-1.0", "party-1.1"] {
-        check(rt, mode_of(rt, path_in(rt, folder, name)) == 0o600, name);
-    }
+    check_mode(rt, folder, "party-1.0");
+    check_mode(rt, folder, "party-1.1");
     remove_folder(rt, folder);
+}
+
+fn check_mode(rt: &impl Host, folder: &str, name: &str) {
+    check(rt, mode_of(rt, path_in(rt, folder, name)) == 0o600, name);
 }

@@ -1,6 +1,6 @@
 //! What calls of the files of a party come to.
 use crate::checks::check;
-use crate::system::helpers::lasting;
+use crate::helpers::lasting::lasting;
 use bg_system::{Failures, PartyFiles};
 use bg_wire::Slot;
 use std::io::ErrorKind;
@@ -56,9 +56,8 @@ pub(crate) fn check_fails(
 
 /// Both slots can be neither read nor written, as their files or their folder are missing.
 pub(crate) fn check_away(rt: &impl Abort, files: &mut Files<'_>, when: &str) {
-    for slot in [Slot::Zero, Slot::One] {
-        check_fails(rt, files, slot, ErrorKind::NotFound, when);
-    }
+    check_fails(rt, files, Slot::Zero, ErrorKind::NotFound, when);
+    check_fails(rt, files, Slot::One, ErrorKind::NotFound, when);
 }
 
 /// Whether a slot has these bytes.

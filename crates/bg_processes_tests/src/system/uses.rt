@@ -1,5 +1,5 @@
 //! The lines of use that the documentation of these crates shows.
-use crate::system::helpers::{new_folder, remove_folder};
+use crate::helpers::folders::{new_folder, remove_folder};
 use bg_seals::{Direction, KEY_BYTES, MasterSecret};
 use bg_system::{FailedCall, Failures, FirstFailures, OwnSocket, publish, read_saved};
 use std::test::Fail;

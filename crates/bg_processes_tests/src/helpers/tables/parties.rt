@@ -1,19 +1,21 @@
 //! The processes of single parties, over any devices: no call here moves what these are made of.
-use super::{ID, KEY, WATCHER};
+use super::{Devices, ID, KEY, WATCHER};
 use bg_auto::{NoObserver, Observer, auto_action};
 use bg_board::Player;
 use bg_match::{Action, Terms};
 use bg_processes::{Going, RefereeProcess, SeatProcess, WatcherProcess};
+use bg_wire::{REFEREE, party_of};
 use bg_world::{Keeper, Link, Outcome};
 use std::alloc::Global;
 
 /// The referee's process, unless it can't begin now.
-pub(super) fn begun_referee<L: Link + Drop, K: Keeper + Drop>(
+pub(super) fn begun_referee<L: Link + Drop, K: Keeper + Drop, D: Devices<L, K>>(
     alloc: Global,
     terms: Terms,
-    link: L,
-    keeper: K,
+    devices: &D,
 ) -> Option<RefereeProcess<L, K>> {
+    let link = devices.link(REFEREE)?;
+    let keeper = devices.keeper(REFEREE)?;
     match RefereeProcess::begin(alloc, ID, terms, KEY, link, keeper) {
         Ok((process, Outcome::Restarted)) => Some(process),
         _ => None,
@@ -21,26 +23,28 @@ pub(super) fn begun_referee<L: Link + Drop, K: Keeper + Drop>(
 }
 
 /// The process of a seat, unless it can't begin now.
-pub(super) fn begun_seat<L: Link + Drop, K: Keeper + Drop>(
+pub(super) fn begun_seat<L: Link + Drop, K: Keeper + Drop, D: Devices<L, K>>(
     alloc: Global,
     player: Player,
     terms: Terms,
-    link: L,
-    keeper: K,
+    devices: &D,
 ) -> Option<SeatProcess<L, K>> {
+    let party = party_of(player);
+    let link = devices.link(party)?;
+    let keeper = devices.keeper(party)?;
     match SeatProcess::begin(alloc, player, ID, terms, link, keeper) {
         Ok((process, Outcome::Restarted)) => Some(process),
         _ => None,
     }
 }
 
-/// The process of the watcher.
-pub(super) fn begun_watcher<L: Link + Drop>(
+/// The process of the watcher, unless it can't begin now.
+pub(super) fn begun_watcher<L: Link + Drop, K, D: Devices<L, K>>(
     alloc: Global,
     terms: Terms,
-    link: L,
+    devices: &D,
 ) -> Option<WatcherProcess<L>> {
-    WatcherProcess::begin(alloc, WATCHER, ID, terms, link).ok()
+    WatcherProcess::begin(alloc, WATCHER, ID, terms, devices.link(WATCHER)?).ok()
 }
 
 /// A round of the referee, where it runs; where it can't go on its process ends. Whether the match
@@ -70,16 +74,23 @@ fn action_of<L: Link, K: Keeper>(
     auto_action(alloc, process.held()?, player).ok()?
 }
 
-/// The automatic player of a seat claims what he does. What that came to; `None` where he does
-/// nothing, or the process can't go on.
-fn choice_of<L: Link, K: Keeper, O: Observer>(
+/// Whether the automatic player of a seat claims what he does, or whether that is lost with its
+/// save.
+fn chooses<L: Link, K: Keeper, O: Observer>(
     alloc: Global,
     process: &mut SeatProcess<L, K>,
     player: Player,
+    is_lost: bool,
     observer: &mut O,
-) -> Option<Outcome> {
-    let action = action_of(alloc, process, player)?;
-    process.choose(action, observer).ok()
+) -> bool {
+    let Some(action) = action_of(alloc, process, player) else {
+        return false;
+    };
+    match process.choose(action, observer) {
+        Ok(Outcome::Chose(Ok(_))) => !is_lost,
+        Ok(Outcome::SaveFault) => is_lost,
+        _ => false,
+    }
 }
 
 /// The automatic player of a seat claims what he does. Whether the process goes on.
@@ -104,12 +115,7 @@ pub(super) fn seat_does<L: Link, K: Keeper, O: Observer>(
     observer: &mut O,
 ) -> bool {
     if word == "plays" || word == "loses" {
-        let chosen = choice_of(alloc, process, player, observer);
-        if word == "plays" {
-            matches!(chosen, Some(Outcome::Chose(Ok(_))))
-        } else {
-            chosen == Some(Outcome::SaveFault)
-        }
+        chooses(alloc, process, player, word == "loses", observer)
     } else if word == "ends" {
         process.save_now(observer).is_ok()
     } else {

@@ -2,6 +2,7 @@
 use super::parties::{
     begun_referee, begun_seat, begun_watcher, referee_round, seat_does, seat_round, watcher_round,
 };
+use super::{Devices, WATCHER};
 use bg_auto::Observer;
 use bg_board::Player;
 use bg_match::{Record, Terms};
@@ -28,31 +29,32 @@ impl<L, K> Running<L, K> {
             watcher: None,
         }
     }
-
-    /// Whether the process of a party runs.
-    pub(super) fn runs(&self, party: u8) -> bool {
-        match party {
-            REFEREE => self.referee.is_some(),
-            SEAT_OF_X => self.x.is_some(),
-            SEAT_OF_O => self.o.is_some(),
-            _ => self.watcher.is_some(),
-        }
-    }
 }
 
 impl<L: Link + Drop, K: Keeper + Drop> Running<L, K> {
-    /// The process of the referee or of a seat begins, unless it can't now.
-    pub(super) fn begin(&mut self, alloc: Global, party: u8, terms: Terms, link: L, keeper: K) {
+    /// The process of a party begins where it does not run, unless it can't now.
+    pub(super) fn begin<D: Devices<L, K>>(
+        &mut self,
+        alloc: Global,
+        party: u8,
+        terms: Terms,
+        devices: &D,
+    ) {
         match party {
-            REFEREE => self.referee = begun_referee(alloc, terms, link, keeper),
-            SEAT_OF_X => self.x = begun_seat(alloc, Player::X, terms, link, keeper),
-            _ => self.o = begun_seat(alloc, Player::O, terms, link, keeper),
+            REFEREE if self.referee.is_none() => {
+                self.referee = begun_referee(alloc, terms, devices);
+            }
+            SEAT_OF_X if self.x.is_none() => {
+                self.x = begun_seat(alloc, Player::X, terms, devices);
+            }
+            SEAT_OF_O if self.o.is_none() => {
+                self.o = begun_seat(alloc, Player::O, terms, devices);
+            }
+            WATCHER if self.watcher.is_none() => {
+                self.watcher = begun_watcher(alloc, terms, devices);
+            }
+            _ => {}
         }
-    }
-
-    /// The watcher's process begins.
-    pub(super) fn begin_watcher(&mut self, alloc: Global, terms: Terms, link: L) {
-        self.watcher = begun_watcher(alloc, terms, link);
     }
 
     /// A round of a party, where it runs. Whether the match is over for it.

@@ -1,18 +1,20 @@
 //! Sockets and folders of the system, as the devices of parties.
-use super::{Devices, ID, KEY};
+use super::{Devices, ID, KEY, Sitting, Table};
 use crate::helpers::failing_devices::{Calls, Failing};
 use crate::helpers::hosts::{Host, Hosted, process_number};
+use bg_match::Rules;
 use bg_processes::{Failures, FileKeeper, Keyring, PartySocket};
 use bg_seals::MasterSecret;
 use bg_wire::{FIRST_WATCHER, REFEREE, SEAT_OF_O, SEAT_OF_X};
+use bg_world::{Keeper, Link};
 
-pub(crate) type Socket<'a> = Failing<'a, PartySocket<'a, HostRuntime>>;
+type Socket<'a> = Failing<'a, PartySocket<'a, HostRuntime>>;
 
-pub(crate) type Files<'a> = Failing<'a, FileKeeper<'a, HostRuntime>>;
+type Files<'a> = Failing<'a, FileKeeper<'a, HostRuntime>>;
 
 /// What opens sockets at ports of a match, and files in a folder, of whose calls one fails.
 #[derive(Drop)]
-pub(crate) struct RealDevices<'a> {
+struct RealDevices<'a> {
     host: &'a HostRuntime,
     calls: &'a Calls,
     port: u16,
@@ -20,17 +22,36 @@ pub(crate) struct RealDevices<'a> {
 }
 
 /// Such devices at free ports.
-pub(crate) fn real_devices<'a>(
-    rt: &'a impl Host,
-    calls: &'a Calls,
-    folder: &'a str,
-) -> RealDevices<'a> {
+fn real_devices<'a>(rt: &'a impl Host, calls: &'a Calls, folder: &'a str) -> RealDevices<'a> {
     RealDevices {
         host: rt.host(),
         calls,
         port: free_port(rt, 20_000),
         folder,
     }
+}
+
+/// Sits at a table of sockets, and of files in a folder, of whose calls one fails.
+pub(crate) fn sit_down(
+    rt: &impl Host,
+    sitting: &impl Sitting,
+    folder: &str,
+    rules: Rules,
+    failing: u32,
+) {
+    let calls = Calls::new(failing);
+    let devices = real_devices(rt, &calls, folder);
+    sit_at::<Socket<'_>, Files<'_>, _>(rt, sitting, devices, rules);
+}
+
+/// Sits at a table of these devices.
+fn sit_at<L: Link + Drop, K: Keeper + Drop, D: Devices<L, K> + Drop>(
+    rt: &impl Host,
+    sitting: &impl Sitting,
+    devices: D,
+    rules: Rules,
+) {
+    sitting.sit(rt, &mut Table::new(rt.alloc(), devices, rules));
 }
 
 impl<'a> Devices<Socket<'a>, Files<'a>> for RealDevices<'a> {

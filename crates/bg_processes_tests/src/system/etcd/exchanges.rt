@@ -1,7 +1,7 @@
 //! Requests to a member, and its answers, as bytes.
 
 use crate::checks::check;
-use crate::system::helpers::lasting;
+use crate::helpers::lasting::lasting;
 use bg_etcd::{Exchange, Fault};
 use std::alloc::Global;
 use std::process::Abort;

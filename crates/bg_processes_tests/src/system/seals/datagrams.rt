@@ -1,7 +1,8 @@
 //! Datagrams that are sealed and opened, and those that are not opened.
 use crate::checks::{check, check_number};
+use crate::helpers::words::{small_number, word};
 use crate::system::seals::keys::{SECRET, key_of};
-use crate::system::words::{bytes_of, bytes_of_both, small_number, word};
+use crate::system::words::{bytes_of, bytes_of_both};
 use bg_seals::{Direction, Key, MOST_PACKET_BYTES, MasterSecret, TAG_BYTES};
 use std::process::Abort;
 

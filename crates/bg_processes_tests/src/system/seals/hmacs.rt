@@ -1,6 +1,7 @@
 //! HMAC-SHA-256 in the test cases of RFC 4231, and at the ends of blocks.
 use crate::checks::{check, check_number};
-use crate::system::words::{bytes_of, word};
+use crate::helpers::words::word;
+use crate::system::words::bytes_of;
 use bg_seals::{HMAC_BYTES, HmacSha256};
 use std::process::Abort;
 

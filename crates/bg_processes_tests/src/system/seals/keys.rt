@@ -1,6 +1,7 @@
 //! Keys that are derived, and what is shown of them.
 use crate::checks::check;
-use crate::system::words::{bytes_of, number, small_number, word};
+use crate::helpers::words::{small_number, word};
+use crate::system::words::{bytes_of, number};
 use bg_seals::{KEY_BYTES, Key, MasterSecret};
 use std::alloc::Global;
 use std::process::Abort;
