@@ -3,6 +3,7 @@
 ghost use Rattle.bg_wire.specs.Packets.PacketText.{IsPacket};
 ghost use Rattle.bg_wire.specs.Saved.SavedText.{IsSavable, parts_of};
 
+use crate::checks::check;
 use crate::fronts::{check_legal, is_front};
 use bg_board::Player;
 use bg_match::Rules;
@@ -61,7 +62,7 @@ fn check_referee(rt: &impl Abort, alloc: Global, packet: &Packet)
 {
     let referee = Referee::fresh(alloc, 1, 1, Rules::One);
     let mut referee = referee.expect(rt, "a length");
-    assert!(rt; referee.due(THREE_ONE) == Ok(1));
+    check(rt, "an opening", referee.due(THREE_ONE) == Ok(1));
     let (_, save, _) = referee.to_save().expect(rt, "a save");
     referee.mark_saved(save);
     let _ = referee.take(packet, THREE_ONE);
@@ -91,7 +92,11 @@ fn check_watcher(rt: &impl Abort, alloc: Global, packet: &Packet)
 /// All cores take the bytes, where these are a packet.
 fn check_packet(rt: &impl Abort, alloc: Global, bytes: &[u8]) {
     if let Ok(packet) = decode(bytes) {
-        assert!(rt; encode(&packet).as_slice() == bytes);
+        check(
+            rt,
+            "a packet is written as it stood",
+            encode(&packet).as_slice() == bytes,
+        );
         check_referee(rt, alloc, &packet);
         check_seat(rt, alloc, &packet);
         check_watcher(rt, alloc, &packet);
@@ -119,7 +124,11 @@ fn check_slots(rt: &impl Abort, alloc: Global, slot0: &[u8], slot1: &[u8], party
 /// The text of old was loaded as the same as what was written of it.
 fn check_same(rt: &impl Abort, alloc: Global, saved: &Saved, text: &[u8]) {
     let again = load(alloc, text).expect(rt, "a written text loads");
-    assert!(rt; has_parts(&again, saved) && has_log(&again, saved));
+    check(
+        rt,
+        "what was saved loads as the same",
+        has_parts(&again, saved) && has_log(&again, saved),
+    );
 }
 
 /// Whether party, save and claim are the same.
@@ -139,7 +148,11 @@ fn check_written(rt: &impl Abort, alloc: Global, saved: &Saved, bytes: &[u8])
 {
     let text = save_text(alloc, saved).expect(rt, "memory");
     if bytes.get(3) == Some(&b'2') {
-        assert!(rt; text.as_slice() == bytes);
+        check(
+            rt,
+            "what was saved is written as it stood",
+            text.as_slice() == bytes,
+        );
     } else {
         check_same(rt, alloc, saved, &text);
     }

@@ -130,8 +130,8 @@ fn hosts_answer(rt: HostRuntime) {
 fn check_answers(rt: &impl Host) {
     let folder = new_folder(rt, "hosts-answer");
     let first = first_answer(rt, folder);
-    assert!(rt; is_first(&first));
-    assert!(rt; later_answer(rt, folder) == first);
+    check(rt, "the first entries", is_first(&first));
+    check(rt, "the same once more", later_answer(rt, folder) == first);
     remove_folder(rt, folder);
 }
 
@@ -146,14 +146,30 @@ fn first_answer(rt: &impl Host, folder: &str) -> Packet {
 
 /// The opening is saved, and no other host begins.
 fn check_in_use(rt: &impl Host, folder: &str) {
-    assert!(rt; has_file(rt, folder, 1) && !has_file(rt, folder, 0));
-    assert!(rt; is_in_use(refusal(rt.host(), folder, 5, Rules::One)));
+    check(
+        rt,
+        "slot 1 is written",
+        has_file(rt, folder, 1) && !has_file(rt, folder, 0),
+    );
+    check(
+        rt,
+        "the files are in use",
+        is_in_use(refusal(rt.host(), folder, 5, Rules::One)),
+    );
 }
 
 /// What a later host of this match tells. None of another match begins.
 fn later_answer(rt: &impl Host, folder: &str) -> Packet {
-    assert!(rt; is_wrong_match(refusal(rt.host(), folder, 3, Rules::One)));
-    assert!(rt; is_wrong_match(refusal(rt.host(), folder, 5, Rules::Two)));
+    check(
+        rt,
+        "another length",
+        is_wrong_match(refusal(rt.host(), folder, 3, Rules::One)),
+    );
+    check(
+        rt,
+        "other rules",
+        is_wrong_match(refusal(rt.host(), folder, 5, Rules::Two)),
+    );
     told(rt, &mut open(rt, folder, 5))
 }
 
@@ -247,7 +263,7 @@ fn play_rounds(
             break;
         }
     }
-    assert!(rt; holds_three(x) && holds_three(o));
+    check(rt, "both hold the match", holds_three(x) && holds_three(o));
 }
 
 const SETUP: Setup = Setup {
@@ -293,6 +309,21 @@ fn goes_on<L: Link + Drop, K: Keeper + Drop>(mut world: World<L, K>) -> bool {
         && world.step(Event::Save { party: 0 }) == Outcome::Saved(2)
 }
 
+/// Whether a world over the folder begins the match, or goes on with it.
+fn comes_to(rt: &impl Abort, host: &HostRuntime, folder: &str, is_first: bool) -> bool {
+    let world = world_over(host, folder, SETUP).expect(rt, "a world");
+    plays(world, is_first)
+}
+
+/// Whether a world begins its match, or goes on with it.
+fn plays<L: Link + Drop, K: Keeper + Drop>(world: World<L, K>, is_first: bool) -> bool {
+    if is_first {
+        begins(world)
+    } else {
+        goes_on(world)
+    }
+}
+
 /// Whether there is no world of another match over the folder, as its files are of this one.
 fn is_refused(host: &HostRuntime, folder: &str) -> bool {
     let other = world_over(host, folder, Setup { id: 2, ..SETUP });
@@ -309,10 +340,8 @@ fn worlds_go_on(rt: HostRuntime) {
 fn check_worlds(rt: &impl Host) {
     let host = rt.host();
     let folder = new_folder(rt, "worlds-go-on");
-    let first = world_over(host, folder, SETUP).expect(rt, "a world");
-    check(rt, "the match begins", begins(first));
-    let later = world_over(host, folder, SETUP).expect(rt, "a world");
-    check(rt, "the match goes on", goes_on(later));
-    assert!(rt; is_refused(host, folder));
+    check(rt, "the match begins", comes_to(rt, host, folder, true));
+    check(rt, "the match goes on", comes_to(rt, host, folder, false));
+    check(rt, "another match", is_refused(host, folder));
     remove_folder(rt, folder);
 }

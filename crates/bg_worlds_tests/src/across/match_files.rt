@@ -154,8 +154,16 @@ fn check_match(rt: &impl Abort, alloc: Global, seed: u8, rules: Rules) {
 /// The file is that of these entries, and is written again of what was read.
 fn check_imported(rt: &impl Abort, alloc: Global, wanted: &Record, file: &[u8]) {
     let imported = import_mat(alloc, 1, wanted.rules(), file).expect(rt, "a match file");
-    assert!(rt; are_all(&imported.record, wanted) && has_lines(&imported.lines, wanted));
-    assert!(rt; exported(rt, alloc, &imported.record).as_slice() == file);
+    check(
+        rt,
+        "the entries",
+        are_all(&imported.record, wanted) && has_lines(&imported.lines, wanted),
+    );
+    check(
+        rt,
+        "the same file",
+        exported(rt, alloc, &imported.record).as_slice() == file,
+    );
 }
 
 /// Whether a record has these entries, and no other.

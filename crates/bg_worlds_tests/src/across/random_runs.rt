@@ -1,6 +1,6 @@
 //! Worlds under random events of all kinds, whose devices fail now and then.
 use crate::across::actions::action_of;
-use crate::checks::check_number;
+use crate::checks::{check, check_number};
 use crate::fronts::{check_fronts, check_legal};
 use crate::worlds::memory_worlds::MemoryWorld;
 use bg_board::Player;
@@ -36,9 +36,9 @@ fn add_failures(rt: &impl Abort, plan: &mut Plan, a: u32, b: u32) {
         party,
         nth: b / 3 % 100,
     };
-    assert!(rt; plan.tears.push(tear).is_ok());
-    assert!(rt; plan.sends.push(send).is_ok());
-    assert!(rt; plan.reads.push(read).is_ok());
+    check(rt, "memory", plan.tears.push(tear).is_ok());
+    check(rt, "memory", plan.sends.push(send).is_ok());
+    check(rt, "memory", plan.reads.push(read).is_ok());
 }
 
 /// A plan by which each device fails a few dozen times.
@@ -169,8 +169,16 @@ fn check_claimed(rt: &impl Abort, record: &Record, claims: &[Claim]) {
 
 /// Each kind of failure and of progress came.
 fn check_counts(rt: &impl Abort, counts: Counts) {
-    assert!(rt; counts.accepted > 0 && counts.learned > 0 && counts.restarted > 0);
-    assert!(rt; counts.saves_torn > 0 && counts.sends_failed > 0 && counts.reads_failed > 0);
+    check(
+        rt,
+        "progress of each kind",
+        counts.accepted > 0 && counts.learned > 0 && counts.restarted > 0,
+    );
+    check(
+        rt,
+        "failures of each kind",
+        counts.saves_torn > 0 && counts.sends_failed > 0 && counts.reads_failed > 0,
+    );
 }
 
 fn world(rt: &impl Abort, alloc: Global, rules: Rules, plan: &Plan) -> MemoryWorld {
@@ -192,7 +200,7 @@ fn note_claim(rt: &impl Abort, claims: &mut Vec<Claim>, event: Event, outcome: &
             number: *number,
             action,
         };
-        assert!(rt; claims.push(claim).is_ok());
+        check(rt, "memory", claims.push(claim).is_ok());
     }
 }
 

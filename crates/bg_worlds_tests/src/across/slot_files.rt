@@ -2,6 +2,7 @@
 //! no empty slot.
 use crate::across::hosts::{Host, lasting, new_folder, remove_folder};
 use crate::across::stand_ins::StandIn;
+use crate::checks::check;
 use bg_examples::lone::referee::LoneReferee;
 use bg_examples::slot_files::SlotFiles;
 use bg_match::{Number, Rules, Terms};
@@ -21,7 +22,7 @@ fn open<'a>(rt: &impl Abort, system: &'a StandIn<'a>, folder: &str) -> Files<'a>
 /// A slot has these bytes.
 fn check_has(rt: &impl Abort, files: &mut Files<'_>, slot: Slot, bytes: &[u8]) {
     let found = files.read(slot).expect(rt, "a slot");
-    assert!(rt; found.as_slice() == bytes);
+    check(rt, "the bytes of a slot", found.as_slice() == bytes);
 }
 
 fn write(rt: &impl Abort, files: &mut Files<'_>, slot: Slot, bytes: &[u8]) {
@@ -54,10 +55,22 @@ fn check_taken_back(
 ) {
     write(rt, files, Slot::Zero, b"saved");
     system.barred.set(folder);
-    assert!(rt; files.write(Slot::One, b"not saved").is_err());
-    for slot in [Slot::Zero, Slot::One] {
-        assert!(rt; refusal(files, slot) == Some(ErrorKind::PermissionDenied));
-    }
+    check(
+        rt,
+        "a write that is not synced",
+        files.write(Slot::One, b"not saved").is_err(),
+    );
+    let refused = Some(ErrorKind::PermissionDenied);
+    check(
+        rt,
+        "slot 0 while it can't be synced",
+        refusal(files, Slot::Zero) == refused,
+    );
+    check(
+        rt,
+        "slot 1 while it can't be synced",
+        refusal(files, Slot::One) == refused,
+    );
     system.barred.set("");
     check_has(rt, files, Slot::Zero, b"saved");
     check_has(rt, files, Slot::One, b"");
@@ -83,7 +96,11 @@ fn check_vanished(rt: &impl Host, files: &mut Files<'_>, path: &str) {
     write(rt, files, Slot::One, b"text");
     check_has(rt, files, Slot::One, b"text");
     fs::remove_file(rt.host(), path).expect(rt, "the file is removed");
-    assert!(rt; refusal(files, Slot::One) == Some(ErrorKind::NotFound));
+    check(
+        rt,
+        "a file that has vanished",
+        refusal(files, Slot::One) == Some(ErrorKind::NotFound),
+    );
     check_has(rt, files, Slot::Zero, b"");
 }
 
@@ -102,7 +119,7 @@ fn begin<'a>(rt: &impl Abort, system: &'a StandIn<'a>, folder: &str, seed: u8) -
 /// So many entries are held.
 fn check_holds(rt: &impl Abort, referee: &Referee<'_>, count: Number) {
     let record = referee.held().expect(rt, "the referee is up");
-    assert!(rt; record.len() == count);
+    check(rt, "entries", record.len() == count);
 }
 
 /// A referee that can't sync its first save ends and has told nothing, and the next one begins with
@@ -127,6 +144,10 @@ fn check_unsynced(
 ) {
     system.barred.set(folder);
     let ends = (0..TURNS).any(|_| referee.turn().is_err());
-    assert!(rt; ends && referee.link.outgoing().is_empty());
+    check(
+        rt,
+        "the referee ends and tells nothing",
+        ends && referee.link.outgoing().is_empty(),
+    );
     system.barred.set("");
 }

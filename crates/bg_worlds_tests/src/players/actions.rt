@@ -56,5 +56,9 @@ pub(crate) fn transcript_in<'a>(rt: &impl Abort, text: &'a str) -> &'a str {
 /// The transcript is good.
 pub(crate) fn check_transcript(rt: &(impl AllocGlobal + Abort), transcript: &str) {
     let judgement = judge_text(rt.alloc(), transcript.as_bytes()).expect(rt, "memory");
-    assert!(rt; matches!(judgement.verdict, Verdict::Fine(_)));
+    check(
+        rt,
+        "a good transcript",
+        matches!(judgement.verdict, Verdict::Fine(_)),
+    );
 }

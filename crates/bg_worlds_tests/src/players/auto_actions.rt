@@ -134,8 +134,12 @@ fn does_words(
 /// Adds offers to resign which are rejected.
 fn offer(rt: &impl Abort, record: &mut Record, count: u32) {
     for _ in 0..count {
-        assert!(rt; record.push(Entry::Resigned(Level::Normal)).is_ok());
-        assert!(rt; record.push(Entry::Rejected).is_ok());
+        check(
+            rt,
+            "an offer",
+            record.push(Entry::Resigned(Level::Normal)).is_ok(),
+        );
+        check(rt, "an answer", record.push(Entry::Rejected).is_ok());
     }
 }
 
@@ -217,9 +221,9 @@ fn check_full_record(rt: &(impl AllocGlobal + Abort)) {
     let record = record_that_lasts(rt, 1);
     push(rt, record, "open 3 1");
     offer(rt, record, 499_999);
-    assert!(rt; moves(rt, record));
+    check(rt, "a turn is played", moves(rt, record));
     push(rt, record, "X resign normal");
-    assert!(rt; record.len() == MOST_ENTRIES);
+    check(rt, "the record is full", record.len() == MOST_ENTRIES);
     check_idle(rt, record, Player::X);
     check_idle(rt, record, Player::O);
 }

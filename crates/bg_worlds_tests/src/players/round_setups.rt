@@ -60,14 +60,18 @@ pub(crate) const UNUSED: Devices<'static> = Devices {
 
 /// The slots of a keeper have these bytes.
 fn fill(rt: &impl Abort, keeper: &mut OwnKeeper<'_>, slots: &Slots<'_>) {
-    assert!(rt; keeper.fill(slots.zero, slots.one).is_ok());
+    check(
+        rt,
+        "memory for slots",
+        keeper.fill(slots.zero, slots.one).is_ok(),
+    );
 }
 
 /// On a link these datagrams wait that are no packets.
 fn garble(rt: &impl Abort, link: &mut OwnLink<'_>, garbled: &[u8; 3]) {
     for (party, count) in (0..3u8).zip(garbled) {
         for _ in 0..*count {
-            assert!(rt; link.wait(party, &[0]).is_ok());
+            check(rt, "memory for a datagram", link.wait(party, &[0]).is_ok());
         }
     }
 }

@@ -2,6 +2,7 @@
 use super::actions::{
     action, check_transcript, empty_record, push, text_in, text_of, transcript_in,
 };
+use crate::checks::check;
 use bg_board::Player;
 use bg_match::{Record, Rules};
 use std::process::Abort;
@@ -32,14 +33,26 @@ fn push_all(rt: &impl Abort, record: &mut Record) {
 
 #[test]
 fn nobody_plays_a_turn_that_is_passed(rt: HostRuntime) {
-    assert!(rt; acts(&rt, Rules::One, Player::X) && !acts(&rt, Rules::One, Player::O));
-    assert!(rt; !acts(&rt, Rules::Two, Player::X) && !acts(&rt, Rules::Two, Player::O));
+    check(
+        &rt,
+        "rules 1",
+        acts(&rt, Rules::One, Player::X) && !acts(&rt, Rules::One, Player::O),
+    );
+    check(
+        &rt,
+        "rules 2",
+        !acts(&rt, Rules::Two, Player::X) && !acts(&rt, Rules::Two, Player::O),
+    );
 }
 
 fn check_automatic_match_by_the_second_rules(rt: &(impl AllocGlobal + Abort)) {
     let text = text_of(rt.alloc(), 4, 1, Rules::Two, 1, 4000).expect(rt, "memory");
     let text = text_in(rt, &text);
-    assert!(rt; text.starts_with("length 1 rules 2\nopen "));
+    check(
+        rt,
+        "how it begins",
+        text.starts_with("length 1 rules 2\nopen "),
+    );
     check_transcript(rt, transcript_in(rt, text));
 }
 

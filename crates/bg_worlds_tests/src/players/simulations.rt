@@ -43,7 +43,11 @@ X to move 6 4
 #[test]
 fn nothing_happens_without_events(rt: HostRuntime) {
     let text = text_of(rt.alloc(), 1, 1, Rules::One, 1, 0).expect(&rt, "memory");
-    assert!(rt; text.as_slice() == NOTHING_HAPPENED.as_bytes());
+    check(
+        &rt,
+        "nothing happened",
+        text.as_slice() == NOTHING_HAPPENED.as_bytes(),
+    );
 }
 
 /// The seed, the length and the watchers of a match, and why there is none.
@@ -98,7 +102,11 @@ fn good_transcript(
 ) -> &'static str {
     let bytes = text_of(rt.alloc(), seed, 3, rules, watchers, steps).expect(rt, "memory");
     let text = text_in(rt, bytes.leak());
-    assert!(rt; text.matches("party ").count() == 3 + usize::from(watchers));
+    check(
+        rt,
+        "a line for each party",
+        text.matches("party ").count() == 3 + usize::from(watchers),
+    );
     check_parties(rt, text);
     let transcript = transcript_in(rt, text);
     check_transcript(rt, transcript);
@@ -107,7 +115,11 @@ fn good_transcript(
 
 /// One begins with the other.
 fn check_one_match(rt: &impl Abort, left: &str, right: &str) {
-    assert!(rt; left.starts_with(right) || right.starts_with(left));
+    check(
+        rt,
+        "one match",
+        left.starts_with(right) || right.starts_with(left),
+    );
 }
 
 /// Whether somebody moves in a match of this seed: the seed and the length alone decide what its
@@ -128,7 +140,7 @@ fn check_moves(rt: &(impl AllocGlobal + Abort), rules: Rules) {
     for seed in 1..=5 {
         moved = moves_in(rt, seed, rules) || moved;
     }
-    assert!(rt; moved);
+    check(rt, "somebody moves", moved);
 }
 
 #[test]
@@ -150,7 +162,7 @@ fn text_at_last(rt: &(impl AllocGlobal + Abort), steps: u32) -> Vec<u8> {
                 fault,
                 ScriptFault::World(WorldFault::Memory) | ScriptFault::Engine(EngineFault::Memory)
             );
-            assert!(rt; is_memory);
+            check(rt, "want of memory", is_memory);
             text_of(rt.alloc(), 2047, 1, Rules::One, 1, steps).expect(rt, "memory")
         }
     }
@@ -161,7 +173,11 @@ fn text_at_last(rt: &(impl AllocGlobal + Abort), steps: u32) -> Vec<u8> {
 #[test]
 fn refused_growths_of_a_match(rt: HostRuntime) -> Result<(), Fail> {
     let text = text_at_last(&rt, 24);
-    assert!(rt; text.as_slice() == AFTER_24_EVENTS.as_bytes());
+    check(
+        &rt,
+        "24 events",
+        text.as_slice() == AFTER_24_EVENTS.as_bytes(),
+    );
     check_no_growth_is_left(rt.alloc())
 }
 
@@ -174,7 +190,7 @@ fn check_refused_growths_of_an_action(rt: &(impl AllocGlobal + Abort)) -> Result
         Ok(found) => found,
         Err(AllocError) => action(rt.alloc(), &record, Player::X)?,
     };
-    assert!(rt; matches!(found, Some(Action::Move(_))));
+    check(rt, "a move", matches!(found, Some(Action::Move(_))));
     check_no_growth_is_left(rt.alloc())
 }
 

@@ -1,6 +1,6 @@
 //! The random words of automatic matches: of dice and of events, and how they follow each other.
 use super::actions::text_of;
-use crate::checks::{check_number, check_row};
+use crate::checks::{check, check_number, check_row};
 use bg_auto::{DiceAttempts, Simulation, dice_word, event_words};
 use bg_match::{Number, Rules};
 use bg_referee::{DueFault, TakeOutcome};
@@ -126,8 +126,16 @@ fn attempts_at_words(rt: HostRuntime) {
     // The last attempt is followed by the first.
     check_attempt(&rt, 65535, &equal, 0);
     // A restart, or another entry, begins again.
-    assert!(rt; follows(3, true, &Outcome::Restarted, 4, (4, 0)));
-    assert!(rt; follows(3, false, &Outcome::Due(Ok(5)), 5, (5, 0)));
+    check(
+        &rt,
+        "a restart",
+        follows(3, true, &Outcome::Restarted, 4, (4, 0)),
+    );
+    check(
+        &rt,
+        "another entry",
+        follows(3, false, &Outcome::Due(Ok(5)), 5, (5, 0)),
+    );
 }
 
 /// The word of an attempt where the referee holds so many entries.
@@ -153,7 +161,12 @@ fn words_of_attempts_are_those_of_the_dice(rt: HostRuntime) {
         for (i, (entries, number)) in rows.iter().enumerate() {
             check_row(&rt, i, are_of_the_next(seed, *entries, *number));
         }
-        assert!(rt; word_of(seed, None, 0) == 0);
+        check_number(
+            &rt,
+            "a referee that is down, seed",
+            seed,
+            word_of(seed, None, 0) == 0,
+        );
     }
 }
 

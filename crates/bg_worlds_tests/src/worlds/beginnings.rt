@@ -18,7 +18,7 @@ fn keeper(
 ) -> &'static mut OwnKeeper<'static> {
     let recorder = Recorder::that_lasts(rt, rt.alloc(), NO_FAILURE);
     let keeper = lasting(rt.alloc(), OwnKeeper::empty(recorder, party)).expect(rt, "memory");
-    assert!(rt; keeper.fill(zero, one).is_ok());
+    check(rt, "memory for slots", keeper.fill(zero, one).is_ok());
     keeper
 }
 
@@ -34,10 +34,10 @@ fn restored(
     outcome: &Outcome,
 ) -> Result<Number, RestoreCause> {
     if let Outcome::RestoreFault(cause) = outcome {
-        assert!(rt; held.is_none());
+        check(rt, "a referee that is down holds nothing", held.is_none());
         return Err(*cause);
     }
-    assert!(rt; *outcome == Outcome::Restarted);
+    check(rt, "the referee restarts", *outcome == Outcome::Restarted);
     Ok(held.expect(rt, "a referee that is up"))
 }
 
@@ -60,7 +60,11 @@ fn refusal_of_seat(
 ) -> Option<RestoreCause> {
     let keeper = keeper(rt, 1, zero, one);
     let (seat, outcome) = begun_seat(rt.alloc(), Player::X, TERMS, keeper).expect(rt, "a seat");
-    assert!(rt; seat.held().is_none() && seat.claim().is_none());
+    check(
+        rt,
+        "a seat that is down",
+        seat.held().is_none() && seat.claim().is_none(),
+    );
     match outcome {
         Outcome::RestoreFault(cause) => Some(cause),
         _ => None,
@@ -77,9 +81,9 @@ fn text_of(rt: &(impl AllocGlobal + Abort), id: u64, rules: Rules) -> &'static [
 }
 
 fn first_text(rt: &impl Abort, core: &mut Referee) -> &'static [u8] {
-    assert!(rt; core.due(12).is_ok());
+    check(rt, "an opening", core.due(12).is_ok());
     let (_, save, text) = core.to_save().expect(rt, "a text");
-    assert!(rt; save == 1);
+    check(rt, "the first save", save == 1);
     text.leak()
 }
 
@@ -120,7 +124,11 @@ fn check_processes_begin(rt: &(impl AllocGlobal + Abort)) {
     check_down(rt, "another match", b"", another, wrong);
     check_down(rt, "other rules", b"", other_rules, wrong);
     // A seat doesn't sit down on what the referee saved.
-    assert!(rt; refusal_of_seat(rt, b"", text) == Some(wrong));
+    check(
+        rt,
+        "what the referee saved",
+        refusal_of_seat(rt, b"", text) == Some(wrong),
+    );
 }
 
 #[test]

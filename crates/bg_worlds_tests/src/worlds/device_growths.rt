@@ -1,6 +1,6 @@
 //! The devices in memory where memory is refused. No run of the tests refuses any, but
 //! `tools/checks/refuse_growths` refuses each growth in turn.
-use crate::checks::{check_no_growth_is_left, check_number, check_party};
+use crate::checks::{check, check_no_growth_is_left, check_number, check_party};
 use crate::worlds::lines::check_outcome;
 use crate::worlds::memory_worlds::{
     MemoryWorld, check_line, check_lines, happen, held, sent_to, step, world_of,
@@ -67,7 +67,11 @@ fn saved_at_last(rt: &impl Abort, world: &mut MemoryWorld, save: u32) -> Outcome
 fn check_back(rt: &impl Abort, world: &mut MemoryWorld, save: u32) {
     check_at_last(rt, world, "restart 0 -> restarted");
     let saved = if save == 1 { 0 } else { 1 };
-    assert!(rt; held(world, 0) == Some(saved));
+    check(
+        rt,
+        "the entries that were saved",
+        held(world, 0) == Some(saved),
+    );
     if saved == 0 {
         check_at_last(rt, world, "due 12 -> entry 1");
     }

@@ -64,7 +64,11 @@ fn lines_of_choices(rt: HostRuntime) {
     check_choice(&rt, "choose X double", Player::X, Action::Double);
     check_choice(&rt, "choose O resign gammon", Player::O, resignation);
     check_choice(&rt, "choose X move", Player::X, Action::Move(turn.copy()));
-    assert!(rt; push_step(&mut turn, 8, 5) && push_step(&mut turn, 6, 5));
+    check(
+        &rt,
+        "a turn",
+        push_step(&mut turn, 8, 5) && push_step(&mut turn, 6, 5),
+    );
     check_choice(&rt, "choose X move 8-5 6-5", Player::X, Action::Move(turn));
 }
 

@@ -1,5 +1,5 @@
 //! Worlds whose devices fail, worlds that are refused, and runs.
-use crate::checks::check_row;
+use crate::checks::{check, check_row};
 use crate::worlds::lines::lines_of;
 use crate::worlds::memory_worlds::{
     MemoryWorld, check_line, check_plays, events_of, played, simulated, world_of,
@@ -166,7 +166,7 @@ fn check_runs_count_faults(rt: &(impl AllocGlobal + Abort)) {
         memory: 0,
         faults: 1,
     };
-    assert!(rt; run(world, events) == expected);
+    check(rt, "one fault", run(world, events) == expected);
     check_line(rt, world, "held: 0 0 0");
 }
 

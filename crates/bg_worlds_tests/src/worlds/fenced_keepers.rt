@@ -89,9 +89,8 @@ fn saves_in_a_row(rt: HostRuntime) {
 
 /// These bytes are refused, whichever slot they are written to.
 fn check_refused(rt: &impl Abort, keeper: &mut FencedMemoryKeeper, bytes: &'static [u8]) {
-    for slot in [Slot::Zero, Slot::One] {
-        assert!(rt; writes(rt, keeper, slot, bytes, false), "{slot:?}");
-    }
+    check(rt, "slot 0", writes(rt, keeper, Slot::Zero, bytes, false));
+    check(rt, "slot 1", writes(rt, keeper, Slot::One, bytes, false));
 }
 
 /// The first bytes of the text of the save of this number.
@@ -184,13 +183,33 @@ fn check_two_referees(rt: &(impl AllocGlobal + Abort)) {
     let (first, second) = (referee(rt, keeper), referee(rt, keeper));
     open(first, 12);
     open(second, 2);
-    assert!(rt; !hold_the_same(first, second));
-    assert!(rt; saved(first, keeper) == Outcome::Saved(1));
-    assert!(rt; saved(second, keeper) == Outcome::SaveFault && second.held().is_none());
-    assert!(rt; restarts(second, keeper) && hold_the_same(first, second));
-    assert!(rt; saved(second, keeper) == Outcome::Saved(2));
+    check(rt, "two openings", !hold_the_same(first, second));
+    check(
+        rt,
+        "the first saves",
+        saved(first, keeper) == Outcome::Saved(1),
+    );
+    check(
+        rt,
+        "the second is down",
+        saved(second, keeper) == Outcome::SaveFault && second.held().is_none(),
+    );
+    check(
+        rt,
+        "the second goes on from that save",
+        restarts(second, keeper) && hold_the_same(first, second),
+    );
+    check(
+        rt,
+        "the second saves",
+        saved(second, keeper) == Outcome::Saved(2),
+    );
     // The node's own call is refused too.
-    assert!(rt; saved_alone(first, keeper) == Outcome::SaveFault);
+    check(
+        rt,
+        "the first is behind",
+        saved_alone(first, keeper) == Outcome::SaveFault,
+    );
 }
 
 #[test]
@@ -211,10 +230,22 @@ fn seat_restarts(node: &mut SeatNode, keeper: &mut FencedMemoryKeeper) -> bool {
 fn check_two_seats(rt: &(impl AllocGlobal + Abort)) {
     let keeper = keeper(rt, b"", b"");
     let (first, second) = (seat(rt, keeper), seat(rt, keeper));
-    assert!(rt; seat_saved(first, keeper) == Outcome::Saved(1));
-    assert!(rt; seat_saved(second, keeper) == Outcome::SaveFault && second.held().is_none());
-    assert!(rt; seat_restarts(second, keeper));
-    assert!(rt; seat_saved(second, keeper) == Outcome::Saved(2));
+    check(
+        rt,
+        "the first saves",
+        seat_saved(first, keeper) == Outcome::Saved(1),
+    );
+    check(
+        rt,
+        "the second is down",
+        seat_saved(second, keeper) == Outcome::SaveFault && second.held().is_none(),
+    );
+    check(rt, "the second restarts", seat_restarts(second, keeper));
+    check(
+        rt,
+        "the second saves",
+        seat_saved(second, keeper) == Outcome::Saved(2),
+    );
 }
 
 #[test]

@@ -69,7 +69,11 @@ pub(crate) fn events_of(rt: &(impl AllocGlobal + Abort), lines: &[&str]) -> &'st
 fn add_events(rt: &impl Abort, events: &mut Vec<Event>, lines: &[&str]) {
     for line in lines {
         if let Some((words, _)) = line.split_once(" -> ") {
-            assert!(rt; events.push(event(rt, words)).is_ok());
+            check(
+                rt,
+                "memory for an event",
+                events.push(event(rt, words)).is_ok(),
+            );
         }
     }
 }

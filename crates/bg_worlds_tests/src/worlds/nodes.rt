@@ -149,12 +149,16 @@ const CLAIM: [u8; 24] = [
 fn check_a_claim_over_two_processes(rt: &(impl AllocGlobal + Abort)) {
     let recorder = Recorder::that_lasts(rt, rt.alloc(), NO_FAILURE);
     let mut parties = played(rt, recorder, "to_the_choice");
-    assert!(rt; claims_a_move(&mut parties));
-    assert!(rt; parties.claim(Player::O).is_none());
+    check(rt, "X claims a move", claims_a_move(&mut parties));
+    check(rt, "O claims nothing", parties.claim(Player::O).is_none());
     parties.check_rows(rt, &lines_of(rt, PLAYS, "a_claim_over_two_processes"));
-    assert!(rt; claims_a_move(&mut parties));
-    assert!(rt; is_taken(&mut *parties.link, 2, &CLAIM));
-    assert!(rt; sends(&mut *parties.link, &CLAIM));
+    check(rt, "X claims a move", claims_a_move(&mut parties));
+    check(
+        rt,
+        "the claim is taken",
+        is_taken(&mut *parties.link, 2, &CLAIM),
+    );
+    check(rt, "the claim is sent", sends(&mut *parties.link, &CLAIM));
     parties.check_rows(rt, &["take 0 3 0 -> accepted 2", "take 0 2 0 -> nothing"]);
 }
 

@@ -125,11 +125,10 @@ impl Parties {
         recorder: &'static Recorder,
     ) -> Result<Parties, WorldFault> {
         let alloc = recorder.alloc;
-        let (of_referee, of_x, of_o) = (
-            keeper(recorder, 0)?,
-            keeper(recorder, 1)?,
-            keeper(recorder, 2)?,
-        );
+        let link = lasting(alloc, OwnLink::by_picks(recorder))?;
+        let of_referee = keeper(recorder, 0)?;
+        let of_x = keeper(recorder, 1)?;
+        let of_o = keeper(recorder, 2)?;
         let nodes = Nodes {
             referee: referee(alloc, of_referee)?,
             x: seat(alloc, Player::X, of_x)?,
@@ -139,7 +138,7 @@ impl Parties {
         };
         Ok(Parties {
             alloc,
-            link: lasting(alloc, OwnLink::by_picks(recorder))?,
+            link,
             of_referee,
             of_x,
             of_o,

@@ -1,5 +1,5 @@
 //! Scripts: good ones, refused ones, and worlds that are refused.
-use crate::checks::check_no_growth_is_left;
+use crate::checks::{check, check_no_growth_is_left};
 use bg_match::Rules;
 use bg_streams::{EngineFault, Reading, Writing};
 use bg_text::{MAX_INPUT, Verdict};
@@ -173,7 +173,11 @@ fn refused_scripts(rt: HostRuntime) {
 
 fn check_longest_scripts(rt: &(impl AllocGlobal + Abort)) {
     let mut longer = Vec::new(rt.alloc());
-    assert!(rt; longer.resize(MAX_INPUT + 1, b'\n').is_ok());
+    check(
+        rt,
+        "memory for a script",
+        longer.resize(MAX_INPUT + 1, b'\n').is_ok(),
+    );
     let text = ["refused: input too long\n", ""];
     check_script(rt, &longer, 0, Verdict::TooLong, text);
     let text = "refused at line 1: not an event\n";
@@ -220,14 +224,18 @@ fn check_lacking(rt: &impl Abort, answer: Result<Verdict, ScriptFault>, written:
     match answer {
         Ok(verdict) => {
             let lacks = has(written, b"out of memory") || has(written, b"save fault");
-            assert!(rt; verdict == Verdict::Fine(16) && lacks);
+            check(
+                rt,
+                "an outcome says that memory lacked",
+                verdict == Verdict::Fine(16) && lacks,
+            );
         }
         Err(fault) => {
             let is_memory = matches!(
                 fault,
                 ScriptFault::World(WorldFault::Memory) | ScriptFault::Engine(EngineFault::Memory)
             );
-            assert!(rt; is_memory && written.is_empty());
+            check(rt, "want of memory", is_memory && written.is_empty());
         }
     }
 }
@@ -243,8 +251,12 @@ fn check_refused_growths_of_scripts(rt: &(impl AllocGlobal + Abort)) -> Result<(
         check_lacking(rt, answer, &written);
         written.clear();
         let again = play(rt.alloc(), input, 1, 1, &mut written);
-        assert!(rt; again == Ok(Verdict::Fine(16)));
-        assert!(rt; written.as_slice() == TEXT_OF_THE_TURN.as_bytes());
+        check(rt, "the second time", again == Ok(Verdict::Fine(16)));
+        check(
+            rt,
+            "the text of the turn",
+            written.as_slice() == TEXT_OF_THE_TURN.as_bytes(),
+        );
     }
     check_no_growth_is_left(rt.alloc())
 }

@@ -64,26 +64,28 @@ pub(crate) fn plan_of(
         sends: Vec::new(alloc),
         reads: Vec::new(alloc),
     };
-    add_failures(rt, &mut plan, lines, cut)?;
+    for line in lines {
+        add_failure(rt, &mut plan, line, cut)?;
+    }
     Ok(plan)
 }
 
-fn add_failures(
+/// Adds the failure of a line, if that is the line of one.
+fn add_failure(
     rt: &impl Abort,
     plan: &mut Plan,
-    lines: &[&str],
+    line: &str,
     cut: Option<u32>,
 ) -> Result<(), AllocError> {
-    for line in lines {
-        if let Some(words) = line.strip_prefix("fails: write ") {
-            plan.tears.push(tear(rt, words, cut))?;
-        } else if let Some(words) = line.strip_prefix("fails: send ") {
-            plan.sends.push(failed_send(rt, words))?;
-        } else if let Some(words) = line.strip_prefix("fails: read ") {
-            plan.reads.push(failed_read(rt, words))?;
-        }
+    if let Some(words) = line.strip_prefix("fails: write ") {
+        Ok(plan.tears.push(tear(rt, words, cut))?)
+    } else if let Some(words) = line.strip_prefix("fails: send ") {
+        Ok(plan.sends.push(failed_send(rt, words))?)
+    } else if let Some(words) = line.strip_prefix("fails: read ") {
+        Ok(plan.reads.push(failed_read(rt, words))?)
+    } else {
+        Ok(())
     }
-    Ok(())
 }
 
 /// The setup of the lines "length" and "watchers".

@@ -73,7 +73,11 @@ fn check_torn(rt: &(impl AllocGlobal + Abort), name: &str, cut: Option<u32>, lin
 
 #[test]
 fn a_run_without_failures(rt: HostRuntime) {
-    assert!(rt; events_of(&rt, &lines_of(&rt, RUNS, "a_run_without_failures")).len() == 16);
+    check(
+        &rt,
+        "16 events",
+        events_of(&rt, &lines_of(&rt, RUNS, "a_run_without_failures")).len() == 16,
+    );
     let world = run(&rt, "a_run_without_failures", None, 0);
     check_lines(&rt, world, &["held: 2 1 0 2"]);
 }

@@ -67,22 +67,14 @@ fn check_save(rt: &impl Abort, world: &mut MemoryWorld, line: &str, row: &str) {
 }
 
 fn check_plays_in_two_steps(rt: &(impl AllocGlobal + Abort)) {
-    for name in [
-        "the_drawn_run",
-        "failed_reads",
-        "failed_writes",
-        "parties_that_are_not_there",
-    ] {
-        check_play(rt, FAULTS, name);
-    }
-    for name in [
-        "a_turn_with_a_watcher",
-        "a_roll_is_saved",
-        "a_roll_is_lost",
-        "a_claim_is_kept",
-    ] {
-        check_play(rt, WORKED, name);
-    }
+    check_play(rt, FAULTS, "the_drawn_run");
+    check_play(rt, FAULTS, "failed_reads");
+    check_play(rt, FAULTS, "failed_writes");
+    check_play(rt, FAULTS, "parties_that_are_not_there");
+    check_play(rt, WORKED, "a_turn_with_a_watcher");
+    check_play(rt, WORKED, "a_roll_is_saved");
+    check_play(rt, WORKED, "a_roll_is_lost");
+    check_play(rt, WORKED, "a_claim_is_kept");
 }
 
 #[test]
@@ -145,57 +137,66 @@ fn is_under_way_after(
     }
 }
 
-/// The record or the claim of the party changes, or it saves or begins again.
-#[test]
-fn what_ends_a_save(rt: HostRuntime) {
-    for (before, party, line) in [
-        ("nothing", 0, "due 12"),
-        ("a_sent_claim", 0, "take 0 1 0"),
-        ("an_answer", 1, "take 1 0 0"),
-        ("a_learned_opening", 1, "choose X move 8-5 6-5"),
-        ("an_opening", 0, "save 0"),
-        ("an_opening", 0, "restart 0"),
-        ("a_claim", 1, "save 1"),
-        ("a_claim", 1, "restart 1"),
-    ] {
-        assert!(rt;
-            !is_under_way_after(&rt, before, party, line),
-            "{before}: {line}"
-        );
+/// Rows of what has happened before, the party that saves, and the event that comes then: the save
+/// is still under way after each, or after none.
+fn check_after(rt: &(impl AllocGlobal + Abort), rows: &str, is_under_way: bool) {
+    for row in rows.lines() {
+        let (before, rest) = parted(rt, row, ": ");
+        let (party, line) = parted(rt, rest, ": ");
+        let found = is_under_way_after(rt, before, small_number(rt, party), line);
+        check(rt, row, found == is_under_way);
     }
 }
 
+/// The record or the claim of the party changes, or it saves or begins again.
+const ENDS: &str = "\
+nothing: 0: due 12
+a_sent_claim: 0: take 0 1 0
+an_answer: 1: take 1 0 0
+a_learned_opening: 1: choose X move 8-5 6-5
+an_opening: 0: save 0
+an_opening: 0: restart 0
+a_claim: 1: save 1
+a_claim: 1: restart 1
+";
+
+#[test]
+fn what_ends_a_save(rt: HostRuntime) {
+    check_after(&rt, ENDS, false);
+}
+
 /// Nothing that is saved changes, or it changes at another party.
+const OUTLIVED: &str = "\
+an_opening: 0: due 12
+an_answer: 0: take 0 0 0
+an_answer: 0: tick 0
+an_answer: 0: take 1 0 0
+an_answer: 2: take 1 0 0
+a_claim: 1: take 1 0 0
+a_claim: 1: tick 1
+a_claim: 1: choose X move 24-23 24-21
+a_claim: 0: save 1
+a_claim: 1: restart 0
+a_claim: 2: restart 1
+";
+
 #[test]
 fn what_a_save_outlives(rt: HostRuntime) {
-    for (before, party, line) in [
-        ("an_opening", 0, "due 12"),
-        ("an_answer", 0, "take 0 0 0"),
-        ("an_answer", 0, "tick 0"),
-        ("an_answer", 0, "take 1 0 0"),
-        ("an_answer", 2, "take 1 0 0"),
-        ("a_claim", 1, "take 1 0 0"),
-        ("a_claim", 1, "tick 1"),
-        ("a_claim", 1, "choose X move 24-23 24-21"),
-        ("a_claim", 0, "save 1"),
-        ("a_claim", 1, "restart 0"),
-        ("a_claim", 2, "restart 1"),
-    ] {
-        assert!(rt;
-            is_under_way_after(&rt, before, party, line),
-            "{before}: {line}"
-        );
-    }
+    check_after(&rt, OUTLIVED, true);
 }
 
 fn check_saves_of_another_number(rt: &(impl AllocGlobal + Abort)) {
     let world = world_after(rt, "an_opening");
     check_no_end(rt, world, 0, 1, "none was begun");
-    assert!(rt; begins(world, 0, 1, 27));
+    check(rt, "a save begins", begins(world, 0, 1, 27));
     check_no_end(rt, world, 0, 2, "another number");
     check_no_end(rt, world, 1, 1, "another party");
     check_no_end(rt, world, 3, 1, "no party");
-    assert!(rt; end(world, 0, 1, Ok(())) == Some(Outcome::Saved(1)));
+    check(
+        rt,
+        "the save ends",
+        end(world, 0, 1, Ok(())) == Some(Outcome::Saved(1)),
+    );
     check_no_end(rt, world, 0, 1, "it was ended");
 }
 
@@ -219,27 +220,23 @@ fn check_no_end(rt: &impl Abort, world: &mut MemoryWorld, party: u8, number: u32
 
 #[test]
 fn saves_that_fail(rt: HostRuntime) {
-    check_failed(&rt, DeviceFault::Failed);
-    check_failed(&rt, DeviceFault::Memory);
+    check_failed(&rt, DeviceFault::Failed, "a failure");
+    check_failed(&rt, DeviceFault::Memory, "want of memory");
 }
 
 /// A party whose save failed so is down, and no other.
-fn check_failed(rt: &(impl AllocGlobal + Abort), fault: DeviceFault) {
+fn check_failed(rt: &(impl AllocGlobal + Abort), fault: DeviceFault, what: &str) {
     let world = world_after(rt, "an_opening");
     let save = begun(rt, world, 0);
-    assert!(rt;
-        end(world, 0, save, Err(fault)) == Some(Outcome::SaveFault),
-        "{fault:?}"
-    );
-    assert!(rt;
+    let outcome = end(world, 0, save, Err(fault));
+    check(rt, what, outcome == Some(Outcome::SaveFault));
+    check(
+        rt,
+        what,
         held(world, 0).is_none() && held(world, 1) == Some(0),
-        "{fault:?}"
     );
-    assert!(rt; refusal(world, 0) == Some(Outcome::Down), "{fault:?}");
-    assert!(rt;
-        refusal(world, 3) == Some(Outcome::NoSuchParty),
-        "{fault:?}"
-    );
+    check(rt, what, refusal(world, 0) == Some(Outcome::Down));
+    check(rt, what, refusal(world, 3) == Some(Outcome::NoSuchParty));
 }
 
 /// Why no save begins, if none does.

@@ -1,7 +1,7 @@
 //! A match between parties that run each in a process of its own: processes end at random, and
 //! begin again.
 use crate::across::hosts::Host;
-use crate::checks::check_party;
+use crate::checks::{check, check_party};
 use crate::fronts::is_front;
 use bg_auto::auto_action;
 use bg_board::Player;
@@ -34,8 +34,8 @@ pub(crate) struct Table<'a, R> {
     /// How many processes of the referee have begun.
     begun: u8,
     referee: Option<Box<LoneReferee<'a, HostRuntime>>>,
-    x: Option<Box<LoneSeat<'a, HostRuntime>>>,
-    o: Option<Box<LoneSeat<'a, HostRuntime>>>,
+    x: Seat<'a>,
+    o: Seat<'a>,
     watcher: Option<Box<LoneWatcher>>,
 }
 
@@ -52,6 +52,24 @@ fn play_seat(rt: &impl Host, seat: &mut LoneSeat<'_, HostRuntime>, player: Playe
     seat.turn().expect(rt, "a turn");
 }
 
+type Seat<'a> = Option<Box<LoneSeat<'a, HostRuntime>>>;
+
+/// The link of a seat that runs.
+fn link_of<'b>(seat: &'b mut Seat<'_>) -> Option<&'b mut PostLink> {
+    match seat {
+        Some(seat) => Some(&mut seat.link),
+        None => None,
+    }
+}
+
+/// The record of a seat that runs.
+fn held_by<'b>(seat: &'b Seat<'_>) -> Option<&'b Record> {
+    match seat {
+        Some(seat) => seat.held(),
+        None => None,
+    }
+}
+
 /// A value in a box.
 fn boxed<T: Drop>(rt: &(impl AllocGlobal + Abort), value: T) -> Box<T> {
     Box::new(rt.alloc(), value).expect(rt, "memory")
@@ -61,7 +79,11 @@ fn boxed<T: Drop>(rt: &(impl AllocGlobal + Abort), value: T) -> Box<T> {
 fn check_good(rt: &impl Host, record: &Record) {
     let text = transcript_text(rt.alloc(), record).expect(rt, "memory");
     let judged = judge_text(rt.alloc(), &text).expect(rt, "memory");
-    assert!(rt; judged.verdict == Verdict::Fine(record.len()));
+    check(
+        rt,
+        "a good transcript",
+        judged.verdict == Verdict::Fine(record.len()),
+    );
 }
 
 impl<'a, R: Host> Table<'a, R> {
@@ -98,7 +120,7 @@ impl<'a, R: Host> Table<'a, R> {
         self.carry(REFEREE);
     }
 
-    fn seat(&mut self, player: Player) -> &mut Option<Box<LoneSeat<'a, HostRuntime>>> {
+    fn seat(&mut self, player: Player) -> &mut Seat<'a> {
         match player {
             Player::X => &mut self.x,
             Player::O => &mut self.o,
@@ -142,10 +164,16 @@ impl<'a, R: Host> Table<'a, R> {
     /// The link of a party that runs.
     fn link(&mut self, party: u8) -> Option<&mut PostLink> {
         match party {
-            REFEREE => Some(&mut self.referee.as_mut()?.link),
-            SEAT_OF_X => Some(&mut self.x.as_mut()?.link),
-            SEAT_OF_O => Some(&mut self.o.as_mut()?.link),
-            FIRST_WATCHER => Some(&mut self.watcher.as_mut()?.link),
+            REFEREE => match &mut self.referee {
+                Some(referee) => Some(&mut referee.link),
+                None => None,
+            },
+            SEAT_OF_X => link_of(&mut self.x),
+            SEAT_OF_O => link_of(&mut self.o),
+            FIRST_WATCHER => match &mut self.watcher {
+                Some(watcher) => Some(&mut watcher.link),
+                None => None,
+            },
             _ => None,
         }
     }
@@ -185,10 +213,16 @@ impl<'a, R: Host> Table<'a, R> {
     /// The record of a party that runs.
     fn held(&self, party: u8) -> Option<&Record> {
         match party {
-            REFEREE => self.referee.as_ref()?.held(),
-            SEAT_OF_X => self.x.as_ref()?.held(),
-            SEAT_OF_O => self.o.as_ref()?.held(),
-            _ => Some(self.watcher.as_ref()?.held()),
+            REFEREE => match &self.referee {
+                Some(referee) => referee.held(),
+                None => None,
+            },
+            SEAT_OF_X => held_by(&self.x),
+            SEAT_OF_O => held_by(&self.o),
+            _ => match &self.watcher {
+                Some(watcher) => Some(watcher.held()),
+                None => None,
+            },
         }
     }
 
@@ -223,7 +257,7 @@ impl<'a, R: Host> Table<'a, R> {
         let Some(whole) = self.held(REFEREE) else {
             return before;
         };
-        assert!(rt; whole.len() >= before);
+        check(rt, "the referee loses nothing", whole.len() >= before);
         for party in SEAT_OF_X..=FIRST_WATCHER {
             check_party(rt, party, self.holds_front(party, whole));
         }

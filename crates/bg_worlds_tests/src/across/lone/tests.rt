@@ -1,6 +1,7 @@
 //! Parties that run each in a process of its own, as docs/USING.md shows them.
 use crate::across::hosts::{Host, lasting, new_folder, remove_folder};
 use crate::across::lone::table::{MATCH, Table};
+use crate::checks::check;
 use bg_examples::lone::referee::{LoneReferee, ProcessFault};
 use bg_match::{Number, Rules, Terms};
 use bg_wire::{FIRST_WATCHER, Packet, encode};
@@ -65,7 +66,7 @@ fn refusal(host: &HostRuntime, folder: &str, id: u64, seed: u8) -> Option<Proces
 /// So many entries are held.
 fn check_holds(rt: &impl Abort, referee: &LoneReferee<'_, HostRuntime>, count: Number) {
     let record = referee.held().expect(rt, "the referee is up");
-    assert!(rt; record.len() == count);
+    check(rt, "entries", record.len() == count);
 }
 
 fn turn(rt: &impl Abort, referee: &mut LoneReferee<'_, HostRuntime>) {
@@ -93,7 +94,11 @@ fn check_second(rt: &impl Host, folder: &str) {
     let mut referee = begin(rt, folder, 1);
     take_turns(rt, &mut referee);
     check_holds(rt, &referee, 1);
-    assert!(rt; is_in_use(refusal(rt.host(), folder, MATCH, 2)));
+    check(
+        rt,
+        "the files are in use",
+        is_in_use(refusal(rt.host(), folder, MATCH, 2)),
+    );
 }
 
 fn is_in_use(refusal: Option<ProcessFault>) -> bool {
@@ -102,12 +107,11 @@ fn is_in_use(refusal: Option<ProcessFault>) -> bool {
 
 fn check_other(rt: &impl Host, folder: &str) {
     let other = refusal(rt.host(), folder, MATCH + 1, 3);
-    assert!(rt;
-        matches!(
-            other,
-            Some(ProcessFault::Stopped(Outcome::RestoreFault(RestoreCause::WrongMatch)))
-        )
+    let is_wrong = matches!(
+        other,
+        Some(ProcessFault::Stopped(Outcome::RestoreFault(RestoreCause::WrongMatch)))
     );
+    check(rt, "another match", is_wrong);
 }
 
 /// The first watcher wants all entries.
@@ -135,7 +139,7 @@ fn take_asked_turns(rt: &impl Abort, referee: &mut LoneReferee<'_, HostRuntime>)
 fn check_idle_turn(rt: &impl Abort, referee: &mut LoneReferee<'_, HostRuntime>) {
     asked_turn(rt, referee);
     check_holds(rt, referee, 0);
-    assert!(rt; referee.link.outgoing().is_empty());
+    check(rt, "nothing is told", referee.link.outgoing().is_empty());
 }
 
 fn rename(rt: &impl Host, from: &str, to: &str) {
@@ -156,7 +160,7 @@ fn check_away(
     rename(rt, away, folder);
     take_asked_turns(rt, referee);
     check_holds(rt, referee, 1);
-    assert!(rt; !referee.link.outgoing().is_empty());
+    check(rt, "something is told", !referee.link.outgoing().is_empty());
 }
 
 fn path_away(rt: &(impl AllocGlobal + Abort), folder: &str) -> &'static str {
