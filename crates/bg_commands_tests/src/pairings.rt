@@ -43,20 +43,26 @@ fn players_are_called(rt: HostRuntime) {
     check_called(&rt);
 }
 
-/// Each row has the names of X and of O, and what they are called.
+/// The names of X and of O, what they are called, and both together.
+const CALLED: &[(&str, &str, &str, &str)] = &[
+    ("", "", "X, O", ""),
+    ("Anna", "", "Anna (X), O", "Anna against O"),
+    ("", "Otto", "X, Otto (O)", "X against Otto"),
+    ("Anna", "Otto", "Anna (X), Otto (O)", "Anna against Otto"),
+];
+
 fn check_called(rt: &(impl AllocGlobal + Abort)) {
-    for (x, o, wanted, wanted_of_both) in [
-        ("", "", "X, O", ""),
-        ("Anna", "", "Anna (X), O", "Anna against O"),
-        ("", "Otto", "X, Otto (O)", "X against Otto"),
-        ("Anna", "Otto", "Anna (X), Otto (O)", "Anna against Otto"),
-    ] {
-        let names = names_of(rt, x, o);
-        let called = called_of(rt, &names);
-        check(rt, called == wanted, called);
-        let pairing = pairing_of(rt, &names);
-        check(rt, pairing == wanted_of_both, pairing);
+    for (x, o, called, pairing) in CALLED {
+        check_calls(rt, &names_of(rt, x, o), called, pairing);
     }
+}
+
+/// Players with these names are called so, and so are both together.
+fn check_calls(rt: &(impl AllocGlobal + Abort), names: &Names, called: &str, pairing: &str) {
+    let found = called_of(rt, names);
+    check(rt, found == called, found);
+    let found = pairing_of(rt, names);
+    check(rt, found == pairing, found);
 }
 
 /// The title of a page of a match between these players.
@@ -76,16 +82,18 @@ fn titles_of_pages(rt: HostRuntime) {
     check_titles(&rt, &rt);
 }
 
-/// Each row has the title that is given, the names of X and of O, and the title.
-fn check_titles(rt: &(impl AllocGlobal + Abort), host: &HostRuntime) {
-    for (given, x, o, wanted) in [
-        (Some("T"), "Anna", "Otto", "T"),
-        (Some(""), "Anna", "Otto", ""),
-        (None, "Anna", "Otto", "Anna against Otto"),
-        (None, "Anna", "", "Backgammon match"),
-        (None, "", "Otto", "Backgammon match"),
-        (None, "", "", "Backgammon match"),
-    ] {
+/// The title that is given, the names of X and of O, and the title.
+const TITLES: &[(Option<&str>, &str, &str, &str)] = &[
+    (Some("T"), "Anna", "Otto", "T"),
+    (Some(""), "Anna", "Otto", ""),
+    (None, "Anna", "Otto", "Anna against Otto"),
+    (None, "Anna", "", "Backgammon match"),
+    (None, "", "Otto", "Backgammon match"),
+    (None, "", "", "Backgammon match"),
+];
+
+fn check_titles(rt: &impl Abort, host: &HostRuntime) {
+    for &(given, x, o, wanted) in TITLES {
         let title = title(rt, host, given, x, o);
         check(rt, title == wanted, title);
     }

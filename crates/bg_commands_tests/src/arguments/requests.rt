@@ -3,8 +3,8 @@ mod matches;
 
 use bg_match::Rules;
 use bg_options::{
-    BoardOptions, CheckFormat, CheckOptions, ExportOptions, ImportOptions, ListFormat, ListOptions,
-    PageOptions, RecoverOptions, Request, ShowOptions,
+    BatchOptions, BoardOptions, CheckFormat, CheckOptions, ExportOptions, ImportOptions,
+    ListFormat, ListOptions, PageOptions, RecoverOptions, Request, ShowOptions,
 };
 use bg_picture::Numbering;
 use bg_system::Names;
@@ -35,19 +35,36 @@ fn is_other(row: usize, request: &Request<'_, '_>) -> bool {
     }
 }
 
+/// Whether these words are given, between which a bar stands.
+fn are(given: &[&str], wanted: &str) -> bool {
+    let mut words = wanted.split('|');
+    for word in given {
+        if words.next() != Some(*word) {
+            return false;
+        }
+    }
+    words.next().is_none()
+}
+
+/// Whether this word is given.
+fn is(given: Option<&str>, wanted: &str) -> bool {
+    given == Some(wanted)
+}
+
 fn is_check(row: usize, check: &CheckOptions<'_, '_>) -> bool {
-    let flags = (check.is_quiet, check.is_recursive);
     match row {
         1 => {
-            check.files == ["a", "-", "b"].as_slice()
+            are(check.files, "a|-|b")
                 && check.list.is_none()
-                && flags == (true, false)
+                && check.is_quiet
+                && !check.is_recursive
                 && check.format == CheckFormat::Text
         }
         2 => {
             check.files.is_empty()
-                && check.list == Some("-")
-                && flags == (false, true)
+                && is(check.list, "-")
+                && !check.is_quiet
+                && check.is_recursive
                 && check.format == CheckFormat::Tsv
         }
         _ => false,
@@ -58,23 +75,33 @@ fn is_import(row: usize, import: &ImportOptions<'_, '_>) -> bool {
     match row {
         3 => import.rules == Rules::One && import.batch.is_none() && import.headers.is_none(),
         4 => import.rules == Rules::Two,
-        29 => import.batch.is_some_and(|batch| {
-            batch.files == ["a", "b"].as_slice() && batch.folder == "d" && batch.is_forced
-        }),
-        30 => import.headers == Some("h") && !import.is_forced,
+        29 => is_batch(&import.batch, "a|b", true),
+        30 => is(import.headers, "h") && !import.is_forced,
         _ => false,
     }
 }
 
+/// Whether these files go into the folder `d`, and whether others may be overwritten there.
+fn is_batch(batch: &Option<BatchOptions<'_, '_>>, files: &str, is_forced: bool) -> bool {
+    match batch {
+        Some(batch) => {
+            are(batch.files, files) && batch.folder == "d" && batch.is_forced == is_forced
+        }
+        None => false,
+    }
+}
+
 fn is_export(row: usize, export: &ExportOptions<'_, '_>) -> bool {
-    let headers = export.headers;
+    let headers = &export.headers;
     match row {
         5 => headers.x.is_none() && export.batch.is_none(),
         31 => {
-            (headers.x, headers.o) == (Some("Anna"), Some("Otto"))
-                && (headers.date, headers.event, headers.place) == (Some("1"), Some("2"), Some("3"))
-                && export.batch.is_some_and(|batch| batch.files == ["a"].as_slice()
-                    && !batch.is_forced)
+            is(headers.x, "Anna")
+                && is(headers.o, "Otto")
+                && is(headers.date, "1")
+                && is(headers.event, "2")
+                && is(headers.place, "3")
+                && is_batch(&export.batch, "a", false)
         }
         _ => false,
     }
@@ -83,25 +110,28 @@ fn is_export(row: usize, export: &ExportOptions<'_, '_>) -> bool {
 fn is_show(row: usize, show: &ShowOptions<'_>) -> bool {
     match row {
         6 => show.path0 == "a" && show.path1.is_none() && !show.wants_transcript,
-        7 => show.path0 == "a" && show.path1 == Some("b") && show.wants_transcript,
+        7 => show.path0 == "a" && is(show.path1, "b") && show.wants_transcript,
         _ => false,
     }
 }
 
 fn is_list(row: usize, list: &ListOptions<'_, '_>) -> bool {
     match row {
-        22 => list.folders == ["a", "b"].as_slice() && list.format == ListFormat::Text,
-        23 => list.folders == ["t"].as_slice() && list.format == ListFormat::Json,
+        22 => are(list.folders, "a|b") && list.format == ListFormat::Text,
+        23 => are(list.folders, "t") && list.format == ListFormat::Json,
         _ => false,
     }
 }
 
 fn is_page(row: usize, page: &PageOptions<'_>) -> bool {
-    let asked = (page.title, page.match_path);
     match row {
-        8 => asked == (Some("A & B"), None) && page.numbering == Numbering::X,
-        9 => asked == (None, None) && page.numbering == Numbering::Mover,
-        28 => asked == (None, Some("m")) && page.names() == Names::none(),
+        8 => {
+            is(page.title, "A & B") && page.match_path.is_none() && page.numbering == Numbering::X
+        }
+        9 => {
+            page.title.is_none() && page.match_path.is_none() && page.numbering == Numbering::Mover
+        }
+        28 => page.title.is_none() && is(page.match_path, "m") && page.names() == Names::none(),
         33 => page.match_path.is_none() && are_named(page.names(), "Anna", "Otto"),
         _ => false,
     }
@@ -110,10 +140,11 @@ fn is_page(row: usize, page: &PageOptions<'_>) -> bool {
 fn is_recover(row: usize, recover: &RecoverOptions<'_, '_>) -> bool {
     match row {
         20 => {
-            (recover.match_path, recover.folder) == ("m", "d")
-                && (recover.x, recover.o) == ("x", "o")
-                && recover.keys == Some("k")
-                && recover.transcripts == ["t", "-"].as_slice()
+            are(
+                &[recover.match_path, recover.folder, recover.x, recover.o],
+                "m|d|x|o",
+            ) && is(recover.keys, "k")
+                && are(recover.transcripts, "t|-")
         }
         32 => recover.x == " x",
         _ => false,
@@ -121,9 +152,10 @@ fn is_recover(row: usize, recover: &RecoverOptions<'_, '_>) -> bool {
 }
 
 fn is_board(board: &BoardOptions<'_, '_>) -> bool {
-    board.places == ["a", "b"].as_slice()
-        && (board.out, board.title) == ("p", "Backgammon matches")
-        && (board.numbering, board.is_once) == (Numbering::Mover, true)
+    are(board.places, "a|b")
+        && are(&[board.out, board.title], "p|Backgammon matches")
+        && board.numbering == Numbering::Mover
+        && board.is_once
 }
 
 /// Whether these are the names of X and O.

@@ -1,5 +1,5 @@
 //! What the rows of words ask of matches.
-use super::are_named;
+use super::{are, are_named, is};
 use bg_board::Player;
 use bg_match::{Rules, Terms};
 use bg_options::{
@@ -36,7 +36,7 @@ fn is_sim(sim: &SimOptions) -> bool {
         length: 3,
         rules: Rules::One,
     };
-    (sim.seed, sim.terms) == (u64::MAX, terms) && (sim.watchers, sim.steps) == (2, 9)
+    sim.seed == u64::MAX && sim.terms == terms && sim.watchers == 2 && sim.steps == 9
 }
 
 fn is_loop(played: &LoopOptions<'_>) -> bool {
@@ -44,7 +44,7 @@ fn is_loop(played: &LoopOptions<'_>) -> bool {
         length: 1,
         rules: Rules::Two,
     };
-    (played.seed, played.terms) == (0, terms) && (played.rounds, played.folder) == (1_000_000, "d")
+    played.seed == 0 && played.terms == terms && played.rounds == 1_000_000 && played.folder == "d"
 }
 
 fn is_new(row: usize, new: &NewOptions<'_>) -> bool {
@@ -55,12 +55,16 @@ fn is_new(row: usize, new: &NewOptions<'_>) -> bool {
     match row {
         14 => {
             new.terms == terms
-                && (new.port, new.folder) == (65280, "d")
-                && (new.name_x, new.name_o) == (None, None)
+                && new.port == 65280
+                && new.folder == "d"
+                && new.name_x.is_none()
+                && new.name_o.is_none()
         }
         27 => {
-            (new.port, new.folder) == (1024, "d")
-                && (new.name_x, new.name_o) == (Some("Anna \u{d6}"), Some("Otto"))
+            new.port == 1024
+                && new.folder == "d"
+                && is(new.name_x, "Anna \u{d6}")
+                && is(new.name_o, "Otto")
                 && are_named(new.names(), "Anna \u{d6}", "Otto")
         }
         _ => false,
@@ -76,7 +80,7 @@ fn is_referee(row: usize, referee: &RefereeOptions<'_>) -> bool {
 }
 
 fn is_seat(seat: &SeatOptions<'_>, player: Player) -> bool {
-    seat.player == Some(player) && (seat.match_path, seat.folder) == ("m", "d")
+    seat.player == Some(player) && seat.match_path == "m" && seat.folder == "d"
 }
 
 fn is_play(row: usize, play: &PlayOptions<'_>) -> bool {
@@ -89,20 +93,23 @@ fn is_play(row: usize, play: &PlayOptions<'_>) -> bool {
 
 fn is_act(act: &ActOptions<'_, '_>) -> bool {
     is_seat(&act.seat, Player::O)
-        && act.words == ["move", "8-5"].as_slice()
-        && (act.entry, act.seconds) == (Some(3), 7)
+        && are(act.words, "move|8-5")
+        && act.entry == Some(3)
+        && act.seconds == 7
 }
 
 fn is_watch(row: usize, watch: &WatchOptions<'_>) -> bool {
-    let flags = (watch.goes_on, watch.is_plain, watch.is_quiet);
     match row {
         19 => {
             watch.match_path == "m"
-                && (watch.board, watch.transcript) == (Some("b"), Some("t"))
-                && watch.page == Some("p")
-                && flags == (true, false, false)
+                && is(watch.board, "b")
+                && is(watch.transcript, "t")
+                && is(watch.page, "p")
+                && watch.goes_on
+                && !watch.is_plain
+                && !watch.is_quiet
         }
-        25 => flags == (false, true, true),
+        25 => !watch.goes_on && watch.is_plain && watch.is_quiet,
         _ => false,
     }
 }
