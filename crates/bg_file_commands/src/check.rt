@@ -73,7 +73,7 @@ fn check_names(rt: &HostRuntime, files: &[&str], list: Option<&str>) -> Result<(
         inputs = inputs.saturating_add(usize::from(*name == STANDARD_INPUT));
     }
     if inputs > 1 {
-        return Err(wrong(rt, "the standard input can be read only once"));
+        return Err(wrong(rt, "the standard input can be read only once: name - once"));
     }
     Ok(())
 }

@@ -57,8 +57,11 @@ END
 
 # try_refused_batches (files and folders that can't be, and what is given in place of something else)
 try_refused_batches() {
-    check "two files of one name" 2 "" "bg_relay: out/named.txt would be written twice: rename a file" \
-        import --force --out out named.mat back/named.mat
+    check "two files of one name" 2 "" \
+        "bg_relay: out/named.txt would be written for both named.mat and back/named.mat: rename one, or convert it into another folder" \
+        import --force --out out named.mat ada.mat back/named.mat
+    check "a file that is named twice" 2 "" "bg_relay: named.mat is named twice: name it once" \
+        import --force --out out named.mat ada.mat named.mat
     check "a folder that is none" 2 "" "bg_relay: good is no folder" import --out good named.mat
     check "a folder that is missing, for match files" 2 "" "bg_relay: nowhere is missing: make it first" \
         import --out nowhere named.mat

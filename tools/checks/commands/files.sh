@@ -75,14 +75,15 @@ try_lists_of_files() {
     printf 'good\n\n-\n\xff\x1b\n' > "$work/stdin"
     cat > "$work/expected" << 'END'
 good: ok 2, not over
-bg_relay: a file of the list has an empty name
+bg_relay: line 2 of the list of files is empty: remove it, or name a file
 bg_relay: - could not be read: No such file or directory (os error 2)
 bg_relay: \xff\x1b could not be read: its name is not valid UTF-8
 bg_relay: 1 ok, 0 refused, 3 not judged
 END
     check_lines "names of no file" 1 check --files-from -
-    head -c 70000 /dev/zero | tr '\0' a > "$work/stdin"
-    check "a list without an end" 1 "" "bg_relay: the list of files has a line of more than 65536 bytes" check --files-from -
+    { echo good; head -c 70000 /dev/zero | tr '\0' a; } > "$work/stdin"
+    check "a list without an end" 1 "good: ok 2, not over" \
+        "bg_relay: line 2 of the list of files has more than 65536 bytes: give each file a line of its own" check --files-from -
     : > "$work/stdin"
     check "a list that is missing" 1 "" "bg_relay: the list of files could not be read: No such file" check --files-from none
     check "a folder as a list" 1 "" "bg_relay: the list of files could not be read: Is a directory" check --files-from .
@@ -94,8 +95,8 @@ try_arguments_of_check() {
     check "no file, but quietly" 2 "" "required" check --quiet
     check "an empty name of a file" 2 "" "bg_relay: the name of a file is empty" check good ""
     check "an empty name of a list" 2 "" "bg_relay: the name of a file is empty" check --files-from ""
-    check "the standard input twice" 2 "" "bg_relay: the standard input can be read only once" check - good -
-    check "the standard input as a list and a file" 2 "" "bg_relay: the standard input can be read only once" \
+    check "the standard input twice" 2 "" "bg_relay: the standard input can be read only once: name - once" check - good -
+    check "the standard input as a list and a file" 2 "" "bg_relay: the standard input can be read only once: name - once" \
         check --files-from - -
     check "help of check" 0 "Usage: bg_relay check" "" check --help
 }

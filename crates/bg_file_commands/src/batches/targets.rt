@@ -1,8 +1,9 @@
 //! The files that are written for others, in a folder.
 
-use bg_console::{allocated, wrong_at};
+use bg_console::{allocated, wrong, wrong_at};
 use bg_options::BatchOptions;
 use bg_reports::Ending;
+use bg_system::Printable;
 use std::alloc::{AllocError, Global};
 
 /// The ends of the names of the files that are read, and of those that are written.
@@ -35,11 +36,47 @@ pub(super) fn check_targets(
     let mut before = "";
     for target in &targets {
         if target.as_str() == before {
-            return Err(wrong_at(rt, before, " would be written twice: rename a file"));
+            return Err(refuse_two(rt, batch, endings, before)?);
         }
         before = target.as_str();
     }
     Ok(())
+}
+
+/// Reports for which two files one and the same file would be written.
+fn refuse_two(
+    rt: &HostRuntime,
+    batch: &BatchOptions<'_, '_>,
+    endings: NameEndings,
+    target: &str,
+) -> Result<Ending, Ending> {
+    let (first, second) = allocated(rt, named_both(rt.alloc(), batch, endings, target))?;
+    if first == second {
+        return Ok(wrong_at(rt, first, " is named twice: name it once"));
+    }
+    let (target, first, second) = (Printable(target), Printable(first), Printable(second));
+    Ok(wrong(
+        rt,
+        format_args!(
+            "{target} would be written for both {first} and {second}: rename one, or convert it into another folder"
+        ),
+    ))
+}
+
+/// Returns the last two files for which `target` is written.
+fn named_both<'a>(
+    alloc: Global,
+    batch: &BatchOptions<'_, 'a>,
+    endings: NameEndings,
+    target: &str,
+) -> Result<(&'a str, &'a str), AllocError> {
+    let mut both: (&'a str, &'a str) = ("", "");
+    for name in batch.files {
+        if target_of(alloc, batch.folder, name, endings)?.as_str() == target {
+            both = (both.1, name);
+        }
+    }
+    Ok(both)
 }
 
 /// Returns the paths of all files that are written, sorted.

@@ -2,7 +2,7 @@
 
 use crate::attempts::gathered;
 use crate::checkers::Checker;
-use bg_console::{allocated, failed_for, say, say_number};
+use bg_console::{allocated, failed_for, say};
 use bg_reports::{Ending, MOST_SHOWN, harmless};
 use std::io;
 use std::io::{BufRead, BufReader, Read};
@@ -15,21 +15,27 @@ impl<'a> Checker<'a> {
     pub(crate) fn check_list(&mut self, list: impl Read + Drop) -> Result<(), Ending> {
         let mut list = gathered(self.rt, BufReader::new(self.rt.alloc(), list))?;
         let mut name = Vec::new(self.rt.alloc());
-        for _ in 0..u64::MAX {
-            if !self.check_next(&mut list, &mut name)? {
+        for number in 1..=u64::MAX {
+            if !self.check_next(&mut list, &mut name, number)? {
                 break;
             }
         }
         Ok(())
     }
 
-    /// Judges the file that the next line of a list names. Returns whether there is such a line.
-    fn check_next(&mut self, list: &mut impl BufRead, name: &mut Vec<u8>) -> Result<bool, Ending> {
+    /// Judges the file that the next line of a list names, which is its line `number`. Returns whether
+    /// there is such a line.
+    fn check_next(
+        &mut self,
+        list: &mut impl BufRead,
+        name: &mut Vec<u8>,
+        number: u64,
+    ) -> Result<bool, Ending> {
         name.clear();
         match list.take(MOST_NAME_BYTES).read_until(b'\n', name) {
             Ok(0) => Ok(false),
             Ok(_) => {
-                self.check_listed(name)?;
+                self.check_listed(name, number)?;
                 Ok(true)
             }
             Err(error) => Err(unread_list(self.rt, &error)),
@@ -37,19 +43,28 @@ impl<'a> Checker<'a> {
     }
 
     /// Judges the file that a line of a list names, with its line feed if it has one.
-    fn check_listed(&mut self, line: &[u8]) -> Result<(), Ending> {
+    fn check_listed(&mut self, line: &[u8], number: u64) -> Result<(), Ending> {
         let name = match line.strip_suffix(b"\n") {
             Some(name) => name,
             None if (line.len() as u64) < MOST_NAME_BYTES => line,
             None => {
-                let why = "the list of files has a line of more than ";
-                say_number(self.rt, why, MOST_NAME_BYTES, " bytes");
+                say(
+                    self.rt,
+                    format_args!(
+                        "line {number} of the list of files has more than {MOST_NAME_BYTES} bytes: give each file a line of its own"
+                    ),
+                );
                 return Err(Ending::Failed);
             }
         };
         match str::from_utf8(name) {
             Ok("") => {
-                say(self.rt, "a file of the list has an empty name");
+                say(
+                    self.rt,
+                    format_args!(
+                        "line {number} of the list of files is empty: remove it, or name a file"
+                    ),
+                );
                 self.pass_over();
             }
             Ok(name) => return self.check_file(name),
