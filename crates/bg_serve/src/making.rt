@@ -68,32 +68,72 @@ impl<'a> FolderStore<'a> {
         let name = random_digits(self.rt, 6)?;
         let path = path_in(self.rt.alloc(), self.folder, name.as_str())?;
         let seats = self.make_folder(path.as_str(), x, o, &file)?;
-        self.note_changed(name.as_str())?;
-        self.found(name.as_str(), path.as_str(), file, Some(seats))
+        let opened = self.opened(name.as_str(), path.as_str(), file, seats);
+        if opened.is_err() {
+            let _ = fs::remove_dir_all(self.rt, path.as_str());
+            let _ = self.note_gone(name.as_str());
+        }
+        opened
     }
 
-    /// Makes the folder of a match, with its files. If one of them can't be written, the folder is
-    /// removed: nobody can play the match, and its seats would make it one of those that a store is
-    /// filled with.
+    /// Notes that the files of a match are new, and returns the match.
+    fn opened(
+        &self,
+        name: &str,
+        path: &str,
+        file: NamedMatch,
+        seats: Seats,
+    ) -> io::Result<Found<ServedKeeper<'a>>> {
+        self.note_changed(name)?;
+        self.found(name, path, file, Some(seats))
+    }
+
+    /// Makes the folder of a match, with its files. It has its name once all of them are there: a
+    /// folder of that name in which one is missing would stay behind a server that was killed. If one
+    /// of them can't be written, the folder is removed.
     fn make_folder(&self, path: &str, x: &str, o: &str, file: &NamedMatch) -> io::Result<Seats> {
-        DirBuilder::new().mode(OWNER_ALONE).create(self.rt, path)?;
-        let made = self.fill_folder(path, x, o, file);
+        let unnamed = format!(in self.rt.alloc(); "{path}.new")?;
+        DirBuilder::new()
+            .mode(OWNER_ALONE)
+            .create(self.rt, unnamed.as_str())?;
+        let made = self.fill_folder(unnamed.as_str(), path, x, o, file);
         if made.is_err() {
-            let _ = fs::remove_dir_all(self.rt, path);
+            let _ = fs::remove_dir_all(self.rt, unnamed.as_str());
         }
         made
     }
 
     /// Writes the secret of the dice of a match into its new folder, the SHA-256 of that secret, the
-    /// digests of the seats, and the match file. That comes last, because a folder without one is
-    /// not a match.
-    fn fill_folder(&self, path: &str, x: &str, o: &str, file: &NamedMatch) -> io::Result<Seats> {
-        make_secret(self.rt, path)?;
-        write_digest(self.rt, path, &digest_of(&read_secret(self.rt, path)?))?;
-        let seats = write_seats(self.rt, path, x, o)?;
-        file.write(self.rt, path)?;
-        sync(self.rt, self.folder)?;
+    /// digests of the seats, and the match file. Moves the folder to `path` then.
+    fn fill_folder(
+        &self,
+        unnamed: &str,
+        path: &str,
+        x: &str,
+        o: &str,
+        file: &NamedMatch,
+    ) -> io::Result<Seats> {
+        make_secret(self.rt, unnamed)?;
+        write_digest(
+            self.rt,
+            unnamed,
+            &digest_of(&read_secret(self.rt, unnamed)?),
+        )?;
+        let seats = write_seats(self.rt, unnamed, x, o)?;
+        file.write(self.rt, unnamed)?;
+        self.move_folder(unnamed, path)?;
         Ok(seats)
+    }
+
+    /// Gives the folder of a match its name, and makes that durable. If it can't be made durable, the
+    /// folder has its old name again.
+    fn move_folder(&self, unnamed: &str, path: &str) -> io::Result<()> {
+        fs::rename(self.rt, unnamed, path)?;
+        let synced = sync(self.rt, self.folder);
+        if synced.is_err() {
+            let _ = fs::rename(self.rt, path, unnamed);
+        }
+        synced
     }
 
     /// Returns a random id for a match.

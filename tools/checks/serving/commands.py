@@ -4,6 +4,7 @@ import json
 import os
 import resource
 import shutil
+import signal
 import socket
 import subprocess
 import tempfile
@@ -94,6 +95,36 @@ def make_without_room(server):
     after = sorted(os.listdir(server.folder))
     right(after == before, f"matches without room for their files leave {after}, and not {before}")
     return statuses
+
+
+def die_while_making(port):
+    """A server that ends while it makes a match leaves nothing that the next one takes for a match."""
+    folder = tempfile.mkdtemp()
+    server = Served(folder, port).begin()
+    try:
+        made = server.make(length=1)
+        before = set(os.listdir(folder))
+        hard = resource.prlimit(server.process.pid, resource.RLIMIT_FSIZE)[1]
+        # Some files of a match are smaller, and some are not: these end the process.
+        resource.prlimit(server.process.pid, resource.RLIMIT_FSIZE, (100, hard))
+        status = status_or_none(server)
+        ended = server.process.wait(MOST_SECONDS)
+        right((status, ended) == (None, -signal.SIGXFSZ), f"while it made a match the server ended by {ended} and said {status}")
+        left = set(os.listdir(folder)) - before
+        right(left and all("." in name for name in left), f"a server that ended while it made a match left {left}")
+        server.begin()
+        right(names_on(server) == [made["match"]], f"after that end it lists {names_on(server)}")
+    finally:
+        server.kill()
+        shutil.rmtree(folder, ignore_errors=True)
+
+
+def status_or_none(server):
+    """The status of a request to make a match, if it is answered."""
+    try:
+        return server.ask("/matches", b'{"length":1}', JSON)[0]
+    except OSError:
+        return None
 
 
 def make_many(server):
