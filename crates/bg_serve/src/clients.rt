@@ -26,6 +26,10 @@ pub(crate) struct Client {
     pub(crate) state: Step,
     /// Whether it is to be closed once its pending output is sent.
     pub(crate) is_leaving: bool,
+    /// Whether a request of it was refused before all of it was read.
+    pub(crate) is_refused: bool,
+    /// Whether it has its last answer, and the rest of its refused request is dropped.
+    pub(crate) is_lingering: bool,
     /// The second in which it connected, was last answered, or became a WebSocket.
     pub(crate) since: u64,
     /// The second in which something was last sent, or nothing was waiting.
@@ -57,6 +61,8 @@ impl Client {
             channel: None,
             state: Step::Waits,
             is_leaving: false,
+            is_refused: false,
+            is_lingering: false,
             since: now,
             sent: now,
             heard: now,
@@ -98,6 +104,7 @@ impl Client {
         self.state = match &self.channel {
             _ if self.state == Step::Gone => Step::Gone,
             Some(_) => self.hear_channel(site, now),
+            None if self.is_lingering => self.drop_input(),
             None => self.hear_http(site),
         };
     }
@@ -113,6 +120,7 @@ impl Client {
         }
         match &self.channel {
             Some(_) => self.tell_channel(site, now),
+            None if self.is_lingering => self.state,
             None => self.tell_http(site, now),
         }
     }
@@ -133,7 +141,7 @@ impl Client {
             if self.upgraded.is_none() && connection.state() == State::Upgraded {
                 self.upgraded = site.take_upgraded();
             }
-            explain(self.alloc, self.keys, connection);
+            self.is_refused |= explain(self.alloc, self.keys, connection);
             if !connection.wants_read() {
                 break;
             }
@@ -175,14 +183,15 @@ impl Client {
         Some(Step::More)
     }
 
-    /// Turns the client into a WebSocket if that was granted; otherwise it is gone.
+    /// Turns the client into a WebSocket if that was granted. Otherwise it is gone, unless the rest of
+    /// a refused request is still to be dropped.
     fn end_http<K: Keeper + Drop, S: Store<K> + Drop>(
         &mut self,
         site: &mut Site<K, S>,
         now: u64,
     ) -> Step {
         let Some(peer) = self.upgraded.take() else {
-            return Step::Gone;
+            return self.linger();
         };
         let Some(connection) = self.http.take() else {
             return Step::Gone;

@@ -109,15 +109,18 @@ pub(crate) fn new_connection(
 }
 
 /// Replaces a connection that has refused a request by one that says why. Leaves it as it is if it
-/// has refused none, if answers to earlier requests wait to be sent, or if memory runs out.
-pub(crate) fn explain(alloc: Global, keys: RandomState, connection: &mut Box<Connection>) {
-    if let State::Closing(Reason::Refused(_)) = connection.state() {
-        if let Some(mut refusal) = refusal_of(connection.output()) {
-            if let Some(told) = refusing(alloc, keys, &mut refusal) {
-                *connection = told;
-            }
+/// has refused none, if answers to earlier requests wait to be sent, or if memory runs out. Returns
+/// whether it has refused one.
+pub(crate) fn explain(alloc: Global, keys: RandomState, connection: &mut Box<Connection>) -> bool {
+    let State::Closing(Reason::Refused(_)) = connection.state() else {
+        return false;
+    };
+    if let Some(mut refusal) = refusal_of(connection.output()) {
+        if let Some(told) = refusing(alloc, keys, &mut refusal) {
+            *connection = told;
         }
     }
+    true
 }
 
 /// Returns a connection that has refused a request. Returns `None` if memory runs out.

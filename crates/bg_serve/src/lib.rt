@@ -22,6 +22,7 @@ mod fence;
 mod folders;
 mod joining;
 mod limits;
+mod lingering;
 mod live_clients;
 mod making;
 pub mod manage;
@@ -47,6 +48,6 @@ mod updates;
 mod visitors;
 
 pub use limits::{
-    HEAD_SECONDS, HELLO_SECONDS, MOST_BODY, MOST_CLIENTS, MOST_HEAD, MOST_MADE, PING_SECONDS,
-    SILENT_SECONDS, STALL_SECONDS,
+    HEAD_SECONDS, HELLO_SECONDS, LINGER_SECONDS, MOST_BODY, MOST_CLIENTS, MOST_HEAD, MOST_MADE,
+    PING_SECONDS, SILENT_SECONDS, STALL_SECONDS,
 };

@@ -16,6 +16,9 @@ pub const MOST_MADE: u64 = 60;
 /// request.
 pub const HEAD_SECONDS: u64 = 15;
 
+/// The most seconds for which the rest of a refused request is read and dropped.
+pub const LINGER_SECONDS: u64 = 5;
+
 /// The most seconds until the WebSocket of a player has said which seat it is for.
 pub const HELLO_SECONDS: u64 = 10;
 

@@ -3,8 +3,7 @@
 use crate::clients::Client;
 use crate::exchanges::{Transfer, transfer_of};
 use crate::limits::{
-    HEAD_SECONDS, HELLO_SECONDS, MOST_READS, MOST_WRITES, PING_SECONDS, SILENT_SECONDS,
-    STALL_SECONDS,
+    HELLO_SECONDS, MOST_READS, MOST_WRITES, PING_SECONDS, SILENT_SECONDS, STALL_SECONDS,
 };
 use bg_site::{Site, Step, Store};
 use bg_world::Keeper;
@@ -101,8 +100,9 @@ impl Client {
 
     /// Returns whether the client is within its time limits for silence. A silent peer is pinged.
     fn may_be_silent(&mut self, now: u64) -> bool {
+        let most_seconds = self.most_seconds();
         let Some(channel) = &mut self.channel else {
-            return now.saturating_sub(self.since) <= HEAD_SECONDS;
+            return now.saturating_sub(self.since) <= most_seconds;
         };
         let silent = now.saturating_sub(self.heard);
         if silent > SILENT_SECONDS

@@ -13,6 +13,9 @@ from web_sockets import Closed, Socket
 # The most connections that a server keeps open.
 MOST_OPEN = 4096
 
+# The head of a request whose body is refused before it comes.
+LARGE_BODY = b"POST /matches HTTP/1.1\r\nHost: a\r\ncontent-length: %d\r\n\r\n"
+
 
 def visit_as_strangers(server):
     """Strangers do what they can; a match goes on, and memory stays."""
@@ -21,8 +24,9 @@ def visit_as_strangers(server):
     slow = [begin_head(server) for _ in range(200)]
     make_noise(server)
     large = connect(server)
-    large.sendall(b"POST /matches HTTP/1.1\r\nHost: a\r\ncontent-length: 999999999\r\n\r\n")
+    large.sendall(LARGE_BODY % 999_999_999)
     right(b" 413 " in large.recv(200), "a large body")
+    send_behind_a_refusal(server)
     greet_wrongly(server)
     come_from_elsewhere(server, made)
     ended, half = {}, guess(server, made)
@@ -37,9 +41,9 @@ def visit_as_strangers(server):
         one.close()
     flood(server, server.make(length=1))
     trickling.join()
-    # It gives them fifteen seconds and ten, and more where the machine stands still.
-    right(10 <= ended.get("slow", 0) < MOST_SECONDS and 8 <= ended.get("silent", 0) < MOST_SECONDS,
-          f"a slow head and a silent socket ended after {ended} seconds")
+    # It gives them fifteen seconds, ten and five, and more where the machine stands still.
+    for name, least in (("slow", 10), ("silent", 8), ("refused", 4)):
+        right(least <= ended.get(name, 0) < MOST_SECONDS, f"a connection that was {name} ended after {ended} seconds")
 
 
 def begin_head(server):
@@ -47,6 +51,29 @@ def begin_head(server):
     one = connect(server)
     one.sendall(b"GET / HTTP/1.1\r\nHost: a\r\nX-")
     return one
+
+
+def send_behind_a_refusal(server):
+    """Who sends all of a request that was refused by its head can read why, however late it reads."""
+    size = 4_000_000
+    coded = b"POST /matches HTTP/1.1\r\nHost: a\r\ntransfer-encoding: gzip, chunked\r\n\r\n"
+    for head, status, word in ((LARGE_BODY % size, b" 413 ", b"4096 bytes"), (coded, b" 501 ", b"coding")):
+        for _ in range(3):
+            answer = answer_to_all(server, head, bytes(size))
+            right(status in answer and word in answer, f"who sent all behind a refusal got {answer}")
+
+
+def answer_to_all(server, head, body):
+    """What is answered to a request, all of which is sent before anything is read."""
+    with connect(server) as one:
+        one.settimeout(MOST_SECONDS)
+        try:
+            one.sendall(head)
+            time.sleep(0.1)
+            one.sendall(body)
+            return b"".join(iter(lambda: one.recv(1000), b""))
+        except OSError as error:
+            return str(error).encode()
 
 
 def make_noise(server):
@@ -94,18 +121,22 @@ def send_parts(server, made):
 
 
 def trickle(server, ended):
-    """A head that comes byte by byte has no time for ever, nor a socket that says nothing."""
+    """A head that comes byte by byte has no time for ever, nor what comes so behind a refused one, nor a socket that says
+    nothing."""
     began = time.time()
-    slow, silent = connect(server), Socket(server.port, "/play/live")
-    slow.settimeout(0.5)
-    silent.sock.settimeout(0.5)
+    silent = Socket(server.port, "/play/live")
+    links = {"slow": connect(server), "refused": connect(server), "silent": silent.sock}
+    links["refused"].sendall(LARGE_BODY % 999_999_999)
+    for one in links.values():
+        one.settimeout(0.5)
     times = {}
-    while len(times) < 2 and time.time() - began < MOST_SECONDS:
-        for name, one in (("slow", slow), ("silent", silent.sock)):
+    while len(times) < len(links) and time.time() - began < MOST_SECONDS:
+        for name, one in links.items():
             try:
-                if name == "slow":
+                if name != "silent":
                     one.sendall(b"G")
-                if name not in times and one.recv(100) == b"":
+                # One that was refused has its answer to the end, and goes on until it can't send any more.
+                if name not in times and one.recv(1000) == b"" and name != "refused":
                     times[name] = time.time() - began
             except TimeoutError:
                 pass
