@@ -1,9 +1,9 @@
 //! The records that seats and transcripts hold of a match.
 
-use crate::inputs::{STANDARD_INPUT, check_name, file_bytes, record_in, standard_input};
+use crate::inputs::{STANDARD_INPUT, check_name, file_bytes, record_in, shown, standard_input};
 use crate::saved_files::{slot_of, slots_of};
 use bg_board::Player;
-use bg_console::{no_memory, say, wrong, wrong_at};
+use bg_console::{allocated, no_memory, say, wrong, wrong_at};
 use bg_match::{Number, Record};
 use bg_reports::{Compared, Ending, SlotBytes, compare};
 use bg_system::{MatchFile, Printable};
@@ -44,7 +44,8 @@ impl<'a> Held<'a> {
         } else {
             file_bytes(rt, name)?
         };
-        let record = record_in(rt, name, file.id, &bytes)?;
+        let shown = allocated(rt, shown(rt.alloc(), name))?;
+        let record = record_in(rt, shown.as_str(), file.id, &bytes)?;
         Ok(Held {
             name,
             saved: saved_of(record),

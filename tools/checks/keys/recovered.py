@@ -26,6 +26,7 @@ def check_recovered_keys(top, port):
         os.mkdir(f"{top}/lost/{name}")
     words = ["recover", "--match", f"{lost}/match", "--x", f"{top}/lost/x", "--o", f"{top}/lost/o", "--dir"]
     refuse_keys(words, top, keys, texts, other)
+    refuse_a_transcript(words, f"{top}/lost")
     keep_keys(words, f"{top}/lost/kept", keys, texts, secrets)
     make_new_keys(words, f"{top}/lost/new", texts, secrets)
 
@@ -43,6 +44,16 @@ def refuse_keys(words, top, keys, texts, other):
     done = run(*words, f"{top}/lost/refused", "--keys", f"{top}/nowhere")
     right(done.returncode == 1 and "nowhere/match-x could not be read" in done.stderr, f"recover by no keys: {done}")
     right(not os.path.exists(f"{top}/lost/refused"), "a recover that was refused made a folder")
+
+
+def refuse_a_transcript(words, folder):
+    """`recover` says by its name which transcript is none, also where the name would clear the screen."""
+    put(f"{folder}/\033[2Jheld", b"")
+    done = run(*words, f"{folder}/refused", f"{folder}/\033[2Jheld")
+    told = f"bg_relay: {folder}/\\u{{1b}}[2Jheld: refused at line 1: not a length line"
+    lines = done.stderr.splitlines()
+    right((done.returncode, done.stdout, lines[-1:]) == (2, "", [told]), f"recover by a transcript that is none: {done}")
+    right(not os.path.exists(f"{folder}/refused"), "a recover that was refused made a folder")
 
 
 def keep_keys(words, kept, keys, texts, secrets):
