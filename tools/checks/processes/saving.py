@@ -67,6 +67,8 @@ def check_full(room):
     done = subprocess.run(new, env=cut, capture_output=True, text=True, check=False, timeout=MOST_SECONDS)
     told = f"bg_relay: {top}/full-new/secret could not be written: {why}, and run this again\n"
     right((done.returncode, done.stderr) == (1, told), f"a match made where there is no room: {done}")
+    left = [name for name in os.listdir(f"{top}/full-new") if ".new" in name]
+    right(not left, f"a match made where there is no room left {left}")
     right(run(*new[1:]).returncode == 0, "no match is made where there was no room")
 
 

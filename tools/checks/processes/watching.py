@@ -2,13 +2,14 @@
 import math
 import os
 import pty
+import resource
 import select
 import subprocess
 import time
 
 from counting import right
 from parties import MOST_SECONDS, Match, Party, comes, says
-from processes.running import check, end, start
+from processes.running import check, end, start, started
 from program import PROGRAM
 
 
@@ -51,6 +52,8 @@ def check_kept_files(room):
     said = [line for line in (said + watcher.communicate()[1].decode()).splitlines() if "no word" not in line]
     right(len(said) == 1 and "could not be written: " in said[0], f"a watcher that goes on said {said}")
     check_each_named(top, told)
+    check_without_room(top, told)
+    check_names_taken(top, told)
 
 
 def check_each_named(top, told):
@@ -65,6 +68,39 @@ def check_each_named(top, told):
     said = [line for line in (said + watcher.communicate()[1].decode()).splitlines() if "no word" not in line]
     named = [line.partition(" could not be written: ")[0] for line in said]
     right(named == [f"bg_relay: {path}" for path in kept.values()], f"a watcher whose files can't be written said {said}")
+
+
+def check_without_room(top, told):
+    """A watcher that goes on where no file may grow leaves none beside its file, and writes that once there is room."""
+    folder = f"{top}/no-room"
+    os.mkdir(folder)
+    words = [PROGRAM, "watch", *told, "--page", f"{folder}/page", "--go-on", "--quiet"]
+    # A file that may not grow is to be told to the watcher, and not to end it.
+    limited = ["sh", "-c", "trap '' XFSZ; ulimit -S -f 0; exec \"$@\"", "sh", *words]
+    watcher = subprocess.Popen(limited, stdin=subprocess.DEVNULL, stdout=subprocess.PIPE, stderr=subprocess.PIPE)
+    started.append(watcher)
+    is_said, said = says(watcher, "/page could not be written: ")
+    right(is_said, f"a watcher without room said {said}")
+    # It tries once a second.
+    time.sleep(3.5)
+    right(comes(lambda: not os.listdir(folder), 5), f"a watcher without room left {sorted(os.listdir(folder))}")
+    hard = resource.prlimit(watcher.pid, resource.RLIMIT_FSIZE)[1]
+    resource.prlimit(watcher.pid, resource.RLIMIT_FSIZE, (hard, hard))
+    right(comes(lambda: text_of(f"{folder}/page")), "the page was not written when there was room")
+    right(os.listdir(folder) == ["page"], f"a watcher that has room again left {sorted(os.listdir(folder))}")
+    end(watcher)
+
+
+def check_names_taken(top, told):
+    """Where all names for a new file are taken, a watcher says what to delete."""
+    folder = f"{top}/taken-names"
+    os.mkdir(folder)
+    for name in ("page.new", *(f"page.new{number}" for number in range(1, 99))):
+        with open(f"{folder}/{name}", "w", encoding="ascii"):
+            pass
+    why = "/page could not be written: 99 files beside it end in .new to .new98: delete them\n"
+    check("a page beside 99 new files", 1, "length 1", why, "watch", *told, "--page", f"{folder}/page")
+    right(len(os.listdir(folder)) == 99, f"a watcher that found no name left {sorted(os.listdir(folder))}")
 
 
 def check_progress(room):

@@ -57,7 +57,8 @@ pub fn publish(
     put(rt, path, bytes, FOR_ALL, false)
 }
 
-/// Writes bytes into a new file beside the one at a path, and renames it to that path.
+/// Writes bytes into a new file beside the one at a path, and renames it to that path. Removes the
+/// new file where a step fails, as the next attempt would need another name.
 fn put(
     rt: &(impl Files<File = File> + AllocGlobal),
     path: &str,
@@ -66,17 +67,33 @@ fn put(
     lasting: bool,
 ) -> io::Result<()> {
     let (mut file, name) = new_file(rt, path, mode)?;
+    let filled = fill(&mut file, bytes, lasting);
+    drop(file);
+    let renamed = match filled {
+        Ok(()) => fs::rename(rt, name.as_str(), path),
+        Err(error) => Err(error),
+    };
+    if renamed.is_err() {
+        let _ = fs::remove_file(rt, name.as_str());
+    }
+    renamed
+}
+
+/// Writes bytes into a new file, and makes them durable where they are to last.
+fn fill(file: &mut File, bytes: &[u8], lasting: bool) -> io::Result<()> {
     file.write_all(bytes)?;
     if lasting {
         file.sync_all()?;
     }
-    drop(file);
-    fs::rename(rt, name.as_str(), path)
+    Ok(())
 }
 
 /// Number of files that may be written for one path at once, at most. Those that a kill left behind
 /// count too.
 const MOST_NEW: u8 = 100;
+
+/// The error text where there are so many of them.
+const ALL_TAKEN: &str = "99 files beside it end in .new to .new98: delete them";
 
 /// Creates a file `PATH.new`, or `PATH.new1` and so on where such files exist. It follows no link
 /// that is there, and of two processes that write for the same path each has its own file.
@@ -99,5 +116,5 @@ fn new_file(
         }
         name = format!(in rt.alloc(); "{path}.new{number}")?;
     }
-    Err(io::Error::from(ErrorKind::AlreadyExists))
+    Err(io::Error::new(ErrorKind::AlreadyExists, ALL_TAKEN))
 }
