@@ -1,10 +1,12 @@
 """What scripts ask of a server of matches, as docs/SERVING.md says: what is answered, refused and counted."""
+import http.client
 import os
 import re
 import time
 
 from counting import right
-from serving.asking import JSON, bearer, counted, secret_of, state_of
+from parties import MOST_SECONDS
+from serving.asking import JSON, bearer, connect, counted, secret_of, state_of
 from serving.rolled import told_of_dice
 from web_sockets import Socket
 
@@ -19,6 +21,8 @@ def ask_as_scripts(server):
     seat, other = (made["x"], made["o"]) if state["turn"] == "X" else (made["o"], made["x"])
     act(server, name, seat)
     refuse_requests(server, name, seat)
+    refuse_sockets(server)
+    ignore_case(server, name, other)
     show_all(server, name)
     compare_colours(server, name)
     compare_counts(server, before, counted(server))
@@ -107,6 +111,36 @@ def refuse_requests(server, name, seat):
     refused = server.ask("/matches", b'{"length":3,"name_x":"Anna"}', JSON)[2].decode()
     right('"name_x"' in refused and all(f'"{key}"' in refused for key in ("length", "rules", "x", "o")),
           f"a wrong key is refused by {refused}")
+
+
+def refuse_sockets(server):
+    """Who asks for a WebSocket over a connection that can't become one is told that the address needs one."""
+    needs = (426, b"this address needs a WebSocket\n")
+    for minor, header, wanted in (
+            (1, "", needs), (1, "Connection: keep-alive\r\n", needs), (1, "Connection: x-upgrade\r\n", needs),
+            (0, "", needs), (0, "Connection: upgrade\r\n", needs), (1, "Connection: Upgrade\r\n", (101, b"")),
+            (1, "Connection: keep-alive, UPGRADE\r\n", (101, b"")),
+            (1, "Connection: keep-alive\r\nConnection: upgrade\r\n", (101, b""))):
+        with connect(server) as one:
+            one.settimeout(MOST_SECONDS)
+            one.sendall(f"GET /play/live HTTP/1.{minor}\r\nHost: a\r\n{header}Upgrade: websocket\r\n"
+                        "Sec-WebSocket-Version: 13\r\nSec-WebSocket-Key: AAAAAAAAAAAAAAAAAAAAAA==\r\n\r\n".encode())
+            answer = http.client.HTTPResponse(one)
+            answer.begin()
+            came = (answer.status, answer.read())
+        right(came == wanted, f"for a socket HTTP/1.{minor} with {header!r} came to {came}")
+
+
+def ignore_case(server, name, other):
+    """The kind of a body, and the word before a secret, may be written in small or capital letters."""
+    for kind, status in (("APPLICATION/JSON", 400), ("Application/Json; charset=utf-8", 400), ("application/json ;x=y", 400),
+                         ("application/jsonp", 415), ("text/plain; application/json", 415), ("text/plain", 415)):
+        came = server.ask("/matches", b'{"length":0}', {"content-type": kind})[0]
+        right(came == status, f"a body of the kind {kind} came to {came}")
+    secret = secret_of(other)
+    for words, status in (("bearer", 400), ("BEARER", 400), ("Basic", 401), ("Bearerx", 401)):
+        came = server.ask(f"/matches/{name}/actions", b"roll", {"authorization": f"{words} {secret}"})[0]
+        right(came == status, f"an action by {words} came to {came}")
 
 
 def show_all(server, name):
