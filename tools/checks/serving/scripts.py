@@ -18,6 +18,7 @@ def ask_as_scripts(server):
     before, made = counted(server), server.make(length=1)
     name, state = made["match"], state_of(server, made["match"])
     greet(server, made, state)
+    answer_messages(server, made)
     seat, other = (made["x"], made["o"]) if state["turn"] == "X" else (made["o"], made["x"])
     act(server, name, seat)
     refuse_requests(server, name, seat)
@@ -49,6 +50,22 @@ def greet(server, made, state):
     watcher.close()
 
 
+def answer_messages(server, made):
+    """What a player and a watcher get for messages that are no actions of a seat."""
+    player, watcher = Socket(server.port, "/play/live"), Socket(server.port, f"/matches/{made['match']}/live")
+    player.send("hello " + secret_of(made["x"]))
+    first = [player.message(), player.message()]
+    right(first[0] == {"hello": True} and first[1]["match"] == made["match"], f"a player first gets {first}")
+    for one, said, wanted in ((player, "hello " + secret_of(made["x"]), "this is no message"),
+                              (player, "act 02 roll", "this is no message"), (watcher, "act 2 roll", "you watch")):
+        one.send(said)
+        # States and who is there may come first.
+        answer = next(message for message in iter(one.message, None) if "no" in message)
+        right(answer == {"no": wanted}, f"{said[:11]} came to {answer}")
+    player.close()
+    watcher.close()
+
+
 def make_again(server):
     """A request to make a match that is sent again with its key makes no other match; where others can guess that, it does."""
     keys = ["a" * 16, "a" * 16, "short", "short"]
@@ -70,7 +87,9 @@ def act(server, name, seat):
     for body, status, words in ((b"2 resign normal", 200, b'{"re":2,"done":true}'),
                                 (b"2 resign normal", 200, b'{"re":2,"done":true}'),
                                 (b"2 roll", 200, b'{"re":2,"no":"another entry"}'), (b"3 roll", 200, b"not your turn"),
-                                (b"3 take", 200, b"no"), (b"3 fly", 200, b"no"),
+                                (b"3 take", 200, b"no"), (b"3 fly", 200, b'{"re":3,"no":"not a line"}'),
+                                (b"3 move 8-9", 200, b'{"re":3,"no":"bad number"}'),
+                                (b"3 move 8-7 7-6 6-5 5-4 4-3", 200, b'{"re":3,"no":"too many steps"}'),
                                 (b"roll", 400, b"NUMBER WORDS"), (b"\xff 1", 400, b"")):
         answer = server.ask(actions, body, key)
         right(answer[0] == status and words in answer[2], f"{body} came to {answer[0]} {answer[2]}")
@@ -103,6 +122,8 @@ def refuse_requests(server, name, seat):
             ("/" + "x" * 9000, None, {}, 414, "the first line of a request has at most 8192 bytes: send a shorter path\n"),
             ("/matches", None, {"host": "a b"}, 400, "this is no valid request of HTTP/1.1: "),
             ("/matches", b"x", {**JSON, "transfer-encoding": "gzip, chunked"}, 501, "send it as it is, or in chunks\n"),
+            *(("/matches", b"x", {**JSON, "transfer-encoding": coding}, 400, "this is no valid request of HTTP/1.1: ")
+              for coding in ("gzip", "identity", "chunked, gzip")),
             ("/matches", None, {"x": "x" * 9000}, 431, "at most 8192 bytes and 64 headers: send fewer\n"),
             ("/matches", None, {f"x-{number}": "x" for number in range(70)}, 431, "64 headers: send fewer\n")):
         came, found, text = server.ask(path, body, headers)
