@@ -1,6 +1,7 @@
 //! The match files and key files that commands are given, and the reasons why they are refused.
 
-use crate::messages::{failed_with, wrong, wrong_at};
+use crate::messages::{allocated, failed_with, wrong, wrong_at};
+use crate::paths::path_in;
 use bg_board::Player;
 use bg_reports::Ending;
 use bg_system::{KeyFile, MatchFile, NamedMatch, Printable, name_of_key_file};
@@ -37,6 +38,24 @@ const KEY_REMEDY: &str =
 /// The message on a folder where a key file is asked for.
 const A_FOLDER: &str =
     " is a folder: name the key file in it, `match-x`, `match-o` or `match-watch`";
+
+/// The file that the folder of a match has if `serve` has made it, and the message on such a folder.
+const OF_SERVER: &str = "seats";
+
+const SERVED: &str =
+    " is the folder of a match of `bg_relay serve`, which runs its referee: play it in a browser, or name another folder";
+
+/// Reads the match file in a referee's folder. Refuses the folder of a match that is served: its
+/// server takes no lock there, so a referee beside it would overwrite what it saves. Ends with
+/// `WrongArguments` for such a folder, and otherwise as [`match_of`].
+pub fn match_in(rt: &HostRuntime, folder: &str) -> Result<NamedMatch, Ending> {
+    let seats = allocated(rt, path_in(rt.alloc(), folder, OF_SERVER))?;
+    if fs::symlink_metadata(rt, seats.as_str()).is_ok() {
+        return Err(wrong_at(rt, folder, SERVED));
+    }
+    let path = allocated(rt, path_in(rt.alloc(), folder, "match"))?;
+    match_of(rt, path.as_str())
+}
 
 /// Reads the match file at a path in a referee's folder. Ends with `WrongArguments` where it isn't
 /// one, and with `Failed` where it can't be read.

@@ -41,7 +41,7 @@ pub use breaking::broken;
 pub use colours::{with_bold_offers, with_coloured_checkers};
 pub use entries::{FolderEntry, entries_in};
 pub use folder_keys::{has_key_secret, key_files_in, key_files_of};
-pub use handed_files::{key_file_of, match_of, seat_key_file_of, table_of};
+pub use handed_files::{key_file_of, match_in, match_of, seat_key_file_of, table_of};
 pub use messages::progress::Progress;
 pub use messages::says::{say, say_failures, say_number, say_of, say_why};
 pub use messages::{

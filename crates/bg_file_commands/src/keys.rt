@@ -1,9 +1,7 @@
 //! The command that makes the key files of a match.
 
 use crate::new_folders::{derived_keys, make_secret_of_keys, tell_key_files, write_key_files};
-use bg_console::{
-    allocated, check_folder, has_key_secret, key_files_of, lock_of, match_of, path_in, tell_if_open,
-};
+use bg_console::{check_folder, has_key_secret, key_files_of, lock_of, match_in, tell_if_open};
 use bg_reports::Ending;
 use bg_system::{KeyFiles, NamedMatch};
 
@@ -26,12 +24,6 @@ pub fn run(rt: &HostRuntime, folder: &str) -> Result<Ending, Ending> {
 fn make_key_files(rt: &HostRuntime, folder: &str) -> Result<(), Ending> {
     let file = match_in(rt, folder)?;
     write_key_files(rt, folder, &keys_for(rt, folder, &file)?)
-}
-
-/// Reads the match file in a folder.
-fn match_in(rt: &HostRuntime, folder: &str) -> Result<NamedMatch, Ending> {
-    let path = allocated(rt, path_in(rt.alloc(), folder, "match"))?;
-    match_of(rt, path.as_str())
 }
 
 /// Returns the keys of the folder, from its secret or its key files; new ones where it has none.

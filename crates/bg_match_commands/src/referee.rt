@@ -3,7 +3,7 @@
 use bg_command_parts::{Asked, FailureReporter, Logbook, OwnSaves, begun, socket_of, stopped};
 use bg_console::{
     Progress, allocated, check_folder, check_writable, failed_with, has_key_secret, key_files_of,
-    lock_of, match_of, path_in, tell_if_open, waited, waiting_for, wrong,
+    lock_of, match_in, tell_if_open, waited, waiting_for, wrong,
 };
 use bg_match::Number;
 use bg_options::RefereeOptions;
@@ -55,12 +55,6 @@ pub fn run(
     };
     let names = Names { x, o };
     play(rt, folder, &NamedMatch { table, names }, is_quiet, progress)
-}
-
-/// Reads the match file of a folder.
-fn match_in(rt: &HostRuntime, folder: &str) -> Result<NamedMatch, Ending> {
-    let path = allocated(rt, path_in(rt.alloc(), folder, "match"))?;
-    match_of(rt, path.as_str())
 }
 
 /// Begins the referee of the match in a folder, which is locked and has this match file, and runs

@@ -2,6 +2,7 @@
 import os
 import shutil
 
+from counting import right
 from processes.running import check
 
 
@@ -24,6 +25,7 @@ def check_refused(room):
     check_other_texts(top)
     check_other_parties(top)
     check_missing(top)
+    check_served(top)
 
 
 def check_outputs(top):
@@ -100,3 +102,25 @@ def check_missing(top):
             file.write(bytes(31))
         for told in (f"/{name} could not be read: ", f"\n{remedy}"):
             check(f"a {name} that is cut", 1, "", told, "referee", "--dir", f"{top}/cut")
+
+
+def check_served(top):
+    """The folder of a match that is served, which its server doesn't lock, gets no other referee, match or keys."""
+    folder = f"{top}/served/table"
+    shutil.copytree(f"{top}/table", folder)
+    for name in ("key-secret", "match-x", "match-o", "match-watch"):
+        os.remove(f"{folder}/{name}")
+    with open(f"{folder}/seats", "w", encoding="ascii") as file:
+        file.write(f"x {'0' * 64}\no {'1' * 64}\n")
+    names = sorted(os.listdir(folder))
+    told = (f"bg_relay: {folder} is the folder of a match of `bg_relay serve`, which runs its referee: "
+            "play it in a browser, or name another folder\n")
+    for command in ("referee", "keys"):
+        check(f"{command} over a served match", 2, "", told, command, "--dir", folder)
+    for name in "xo":
+        os.mkdir(f"{top}/served/{name}")
+    seats = ["--x", f"{top}/served/x", "--o", f"{top}/served/o"]
+    told = f"bg_relay: {folder} has a match already: match; give another --dir\n"
+    check("new over a served match", 2, "", told, "new", "--length", "1", "--port", "40000", "--dir", folder)
+    check("recover over a served match", 2, "", told, "recover", "--match", f"{folder}/match", *seats, "--dir", folder)
+    right(sorted(os.listdir(folder)) == names, f"the folder of a served match has {os.listdir(folder)}")

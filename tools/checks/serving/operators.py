@@ -31,6 +31,7 @@ def change_while_serving(server):
     right(server.ask(f"/matches/{name}/actions", b"2 resign normal", bearer(seat))[2] == b'{"re":2,"done":true}',
           "a restored match does not go on")
     refuse_to_manage(server, name, copies)
+    refuse_referees(server, name)
     shutil.rmtree(copies)
 
 
@@ -112,6 +113,16 @@ def refuse_to_manage(server, name, copies):
                                (("--match", name, "--new-link", "Y"), 2, "invalid value")):
         ended, _, told = manage(server, *words)
         right(ended == status and why in told, f"manage {words} ended with {ended}: {told}")
+
+
+def refuse_referees(server, name):
+    """No other process becomes the referee of a match that is served, or makes keys for one."""
+    folder = os.path.join(server.folder, name)
+    for command in ("keys", "referee"):
+        done = subprocess.run([PROGRAM, command, "--dir", folder], capture_output=True, check=False, text=True, timeout=60)
+        told = f"{folder} is the folder of a match of `bg_relay serve`, which runs its referee: play it in a browser"
+        right(done.returncode == 2 and told in done.stderr, f"{command} over a served match: {done}")
+    right("key-secret" not in os.listdir(folder), "keys were made for a served match")
 
 
 def copy_while_played(server):
