@@ -39,7 +39,7 @@ const CLEAR_BELOW: &[u8] = b"\x1b[J";
 /// Appends the lines of a screen to a text, which leave one for the cursor: a heading, the view of
 /// the match, as many of the newest entries as fit, and a foot. The view has the match, the score,
 /// the board from X's side and whose turn it is. Where these don't fit, the pip counts are left out,
-/// then the heading, and then more of the view; the foot stays.
+/// then the heading, and then more of the view, of which the last lines stay; the foot stays too.
 ///
 /// # Errors
 /// An error where there is no memory for it.
@@ -67,7 +67,7 @@ pub(super) fn put_screen(
 }
 
 /// Appends as many lines of a view as there is room for. First those that matter least are left
-/// out, and then the lowest, of which the last line tells the number.
+/// out, and then the uppermost, of which the first line tells the number.
 fn put_fitting(text: &mut Vec<u8>, table: Vec<u8>, room: usize) -> io::Result<()> {
     let alloc = *text.allocator();
     let mut view = table;
@@ -79,17 +79,18 @@ fn put_fitting(text: &mut Vec<u8>, table: Vec<u8>, room: usize) -> io::Result<()
     let shown = room.saturating_sub(1);
     match lines_in(&view).saturating_sub(shown) {
         0 | 1 => Ok(text.extend_from_slice(&view)?),
-        cut => put_cut(text, &view, shown, cut),
+        cut => put_cut(text, &view, cut),
     }
 }
 
-/// Appends the first `shown` lines of a view, and a line that tells how many others were cut off.
-fn put_cut(text: &mut Vec<u8>, view: &[u8], shown: usize, cut: usize) -> io::Result<()> {
-    for line in lines_of(view).take(shown) {
+/// Appends a line that tells how many lines of a view are cut off above, and those below them.
+fn put_cut(text: &mut Vec<u8>, view: &[u8], cut: usize) -> io::Result<()> {
+    let told = format!(in *text.allocator(); "({cut} lines above don't fit here)")?;
+    put_line(text, told.as_str())?;
+    for line in lines_of(view).skip(cut) {
         put_line(text, line)?;
     }
-    let told = format!(in *text.allocator(); "(and {cut} lines that don't fit here)")?;
-    put_line(text, told.as_str())
+    Ok(())
 }
 
 /// Returns a text without the lines that begin so.
