@@ -4,14 +4,14 @@ use bg_auto::LoopFault;
 use bg_command_parts::{Asked, Operator, OwnSaves, stopped};
 use bg_console::{
     Progress, allocated, check_folder, failed, failed_barely, lock_of, no_memory, path_in,
-    tell_if_open, unwritten,
+    tell_if_open, unwritten, wrong_at,
 };
 use bg_match::Terms;
 use bg_options::LoopOptions;
-use bg_processes::{Failures, Printable, play_loop};
+use bg_processes::{Failures, play_loop};
 use bg_reports::Ending;
 use bg_streams::Writing;
-use bg_world::WorldFault;
+use bg_world::{Outcome, RestoreCause, WorldFault};
 use std::{fs, io};
 
 /// Plays the match that the options name.
@@ -52,7 +52,7 @@ pub fn run(
     };
     match result {
         Ok(()) => Ok(Ending::Simulated),
-        Err(LoopFault::Stopped(outcome)) => Err(stopped(rt, saves, &outcome)),
+        Err(LoopFault::Stopped(outcome)) => Err(loop_stopped(rt, saves, &outcome)),
         Err(fault) => Err(loop_failed(rt, fault, output.error())),
     }
 }
@@ -63,11 +63,20 @@ fn check_no_match(rt: &HostRuntime, folder: &str) -> Result<(), Ending> {
     if fs::metadata(rt, path.as_str()).is_err() {
         return Ok(());
     }
-    let shown = Printable(folder);
-    Err(failed(
+    Err(wrong_at(
         rt,
-        format_args!("{shown} has a match between processes: give another --dir"),
+        folder,
+        " has a match between processes: give another --dir",
     ))
+}
+
+/// Reports why a party is down for good. A folder that has saves of another match is refused.
+fn loop_stopped(rt: &HostRuntime, saves: OwnSaves<'_>, outcome: &Outcome) -> Ending {
+    let ending = stopped(rt, saves, outcome);
+    match outcome {
+        Outcome::RestoreFault(RestoreCause::WrongMatch) => Ending::WrongArguments,
+        _ => ending,
+    }
 }
 
 /// Reports that the match ended with a fault, and the reason if writing failed.
