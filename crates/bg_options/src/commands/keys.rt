@@ -13,8 +13,9 @@ If `recover` kept the keys, DIR has no `key-secret`: the key files there are the
 keys. A folder that an older program made has neither. Then `keys` draws a `key-secret`, and the
 match continues with keys; stop all processes of such a match first.
 
-Exit status: 0 for success; 2 if DIR is not a folder, has no match, or has some key files and no
-`key-secret`; 1 if another process uses DIR, or reading, writing or memory failed.";
+Exit status: 0 for success; 2 if DIR is not a folder, is that of a match of `serve`, has no match,
+or has some key files and no `key-secret`; 1 if another process uses DIR, or reading, writing or
+memory failed.";
 
 /// The command with its options and help.
 pub(crate) static COMMAND: Description = Description {

@@ -12,8 +12,9 @@ Logs on standard error when it starts, the result of each game, who comes and go
 ends. It ends some seconds after every party has all entries.
 
 Exit status: 0 once the match is over; 1 if the port is taken, another process uses DIR, its files
-are damaged or of another match, or reading, writing or memory failed; 2 if DIR is not a folder or
-can't be written to, its match file is invalid, or a key file is invalid or missing.";
+are damaged or of another match, or reading, writing or memory failed; 2 if DIR is not a folder,
+can't be written to or is that of a match of `serve`, its match file is invalid, or a key file is
+invalid or missing.";
 
 /// The match whose referee is run.
 #[derive(Clone, Copy)]
