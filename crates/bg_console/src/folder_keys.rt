@@ -3,6 +3,7 @@
 use crate::handed_files::{UNREAD, key_file_of};
 use crate::messages::{failed_with, wrong};
 use crate::paths::file_in;
+use crate::startup::check_folder_name;
 use bg_reports::Ending;
 use bg_system::{KeyFile, KeyFiles, MatchFile, Printable, name_of_key_file};
 use bg_wire::{FIRST_WATCHER, SEAT_OF_O, SEAT_OF_X};
@@ -52,9 +53,10 @@ pub fn key_files_of(
 }
 
 /// Returns the key files of a match in a folder to which they were all copied. Ends with
-/// `WrongArguments` where one is another party's or another match's, and with `Failed` where one
-/// can't be read.
+/// `WrongArguments` where the folder has no name, or one is another party's or another match's, and
+/// with `Failed` where one can't be read.
 pub fn key_files_in(rt: &HostRuntime, folder: &str, table: &MatchFile) -> Result<KeyFiles, Ending> {
+    check_folder_name(rt, folder)?;
     Ok(KeyFiles {
         x: key_file_in(rt, folder, table, SEAT_OF_X)?,
         o: key_file_in(rt, folder, table, SEAT_OF_O)?,

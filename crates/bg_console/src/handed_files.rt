@@ -9,7 +9,7 @@ use bg_wire::{SEAT_OF_O, SEAT_OF_X, party_of};
 use std::{fs, io};
 
 /// The message on an empty path.
-const NO_NAME: &str = "the name of a file is empty";
+pub(crate) const NO_NAME: &str = "the name of a file is empty";
 
 /// The message on a file that can't be read.
 pub(crate) const UNREAD: &str = " could not be read";

@@ -54,6 +54,7 @@ pub use paths::{folder_of, not_memory, path_in, slot_path, without_slashes};
 pub use published::{Outputs, Published, is_one_file};
 pub use screens::{Terminal, columns, output_terminal};
 pub use startup::{
-    check_folder, check_writable, lock_of, own_folder, tell_if_open, waited, waiting_for,
+    check_folder, check_folder_name, check_writable, lock_of, own_folder, tell_if_open, waited,
+    waiting_for,
 };
 pub use tellings::{Telling, print_board, print_text, put_entries, write_out};

@@ -107,12 +107,18 @@ pub fn tell_if_open(rt: &HostRuntime, folder: &str) {
     }
 }
 
-/// Refuses what isn't a folder or is missing, with these words after its name. Ends with
-/// `WrongArguments`, also where the system can't look at it.
-pub fn check_folder(rt: &HostRuntime, folder: &str, words: &str) -> Result<(), Ending> {
+/// Refuses an empty name of a folder. Ends with `WrongArguments`.
+pub fn check_folder_name(rt: &HostRuntime, folder: &str) -> Result<(), Ending> {
     if folder.is_empty() {
         return Err(wrong(rt, "the name of a folder is empty"));
     }
+    Ok(())
+}
+
+/// Refuses what isn't a folder or is missing, with these words after its name. Ends with
+/// `WrongArguments`, also where the system can't look at it.
+pub fn check_folder(rt: &HostRuntime, folder: &str, words: &str) -> Result<(), Ending> {
+    check_folder_name(rt, folder)?;
     match fs::metadata(rt, folder) {
         Ok(found) if found.is_dir() => Ok(()),
         Err(error) if error.kind() != ErrorKind::NotFound => {

@@ -1,6 +1,6 @@
 //! The command that checks the dice of a match by their secret.
 
-use crate::inputs::{file_bytes, read_record};
+use crate::inputs::{check_name, file_bytes, read_record};
 use bg_console::{allocated, print_text, wrong};
 use bg_dice::{Secret, checked_text, secret_in};
 use bg_reports::{Ending, Found};
@@ -21,6 +21,7 @@ pub fn run(rt: &HostRuntime, secret: &str) -> Result<Ending, Ending> {
 
 /// Returns the secret in a file. Reports why where it has none.
 fn secret_of_file(rt: &HostRuntime, path: &str) -> Result<Secret, Ending> {
+    check_name(rt, path)?;
     match secret_in(&file_bytes(rt, path)?) {
         Ok(secret) => Ok(secret),
         Err(why) => {

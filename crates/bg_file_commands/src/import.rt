@@ -2,7 +2,7 @@
 
 use crate::batches::{Conversion, convert_all, put_file};
 use crate::header_files::header_lines;
-use crate::inputs::{match_file_text, standard_input};
+use crate::inputs::{check_name, match_file_text, standard_input};
 use crate::outputs::print_told;
 use bg_console::Progress;
 use bg_options::ImportOptions;
@@ -20,6 +20,9 @@ pub fn run(
 ) -> Result<Ending, Ending> {
     if let Some(batch) = options.batch {
         return convert_all(rt, Conversion::Import(options.rules), batch, progress);
+    }
+    if let Some(path) = options.headers {
+        check_name(rt, path)?;
     }
     let bytes = standard_input(rt)?;
     let text = match_file_text(rt, MATCH_FILE, options.rules, &bytes)?;

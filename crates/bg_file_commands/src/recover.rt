@@ -8,7 +8,8 @@ use crate::new_folders::{
 };
 use bg_board::Player;
 use bg_console::{
-    allocated, check_folder, key_files_in, lock_of, no_memory, say, say_of, table_of, wrong_at,
+    allocated, check_folder, check_folder_name, key_files_in, lock_of, no_memory, say, say_of,
+    table_of, wrong_at,
 };
 use bg_match::{Number, Record};
 use bg_options::RecoverOptions;
@@ -18,6 +19,7 @@ use bg_wire::{REFEREE, Slot, next_save};
 
 /// Makes the folder that the options name.
 pub fn run(rt: &HostRuntime, options: RecoverOptions<'_, '_>) -> Result<Ending, Ending> {
+    check_folder_name(rt, options.x)?;
     if options.x == options.o {
         return Err(wrong_at(
             rt,

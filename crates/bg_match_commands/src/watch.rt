@@ -95,7 +95,7 @@ fn audience_of(is_quiet: bool, is_watched: bool, is_drawn: bool) -> Audience {
     }
 }
 
-/// Refuses an output that is no regular file, and one file for two of the outputs, where each would
+/// Refuses an output that has no name or is no regular file, and one file for two of the outputs, where each would
 /// replace the other.
 fn check_outputs(
     rt: &HostRuntime,
@@ -104,7 +104,9 @@ fn check_outputs(
     page: Option<&str>,
 ) -> Result<(), Ending> {
     for path in [board, transcript, page] {
-        check_out_file(rt, path.unwrap_or_default())?;
+        if let Some(path) = path {
+            check_out_file(rt, path)?;
+        }
     }
     for pair in [(board, transcript), (board, page), (transcript, page)] {
         let (Some(one), Some(other)) = pair else {

@@ -65,6 +65,10 @@ try_refused_batches() {
     check "a folder that is none" 2 "" "bg_relay: good is no folder" import --out good named.mat
     check "a folder that is missing, for match files" 2 "" "bg_relay: nowhere is missing: make it first" \
         import --out nowhere named.mat
+    check "a folder without a name, for match files" 2 "" "bg_relay: the name of a folder is empty" \
+        import --out "" named.mat
+    check "a folder without a name, for transcripts" 2 "" "bg_relay: the name of a folder is empty" \
+        export --out "" good
     mkfifo out/ada.txt
     check "a pipe in place of a file" 2 "" "bg_relay: out/ada.txt is no regular file: name another one" \
         import --force --out out ada.mat

@@ -16,6 +16,7 @@ END
     same "headers beside a transcript" "$work/expected"
     check "headers of a file that is there" 2 "" "bg_relay: ada.headers exists: --force overwrites it" \
         import --headers ada.headers
+    check "headers for a file without a name" 2 "" "bg_relay: the name of a file is empty" import --headers ""
     check "headers over a file that is there" 0 "length 2" "" import --force --headers ada.headers
     printf '; [Event "%s"]\n 1 point match\n' "$long_name" > "$work/stdin"
     check "headers that are malformed" 0 "length 1" "bg_relay: line 1: the event has more than 64 bytes" \

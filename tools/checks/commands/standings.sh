@@ -31,6 +31,7 @@ try_dice() {
     printf 'length 1\nopen 3 3\n' > "$work/stdin"
     check "dice of a transcript that is refused" 2 "" "bg_relay: the transcript: refused at line 2: " dice --secret "$work/dice"
     check "dice by a secret that is missing" 1 "" "$work/missing could not be read: No such file" dice --secret "$work/missing"
+    check "dice by a secret without a name" 2 "" "bg_relay: the name of a file is empty" dice --secret ""
     : > "$work/dice"
     check "dice by an empty secret" 2 "" "$work/dice is refused: it is no secret of dice" dice --secret "$work/dice"
     check "dice without a secret" 2 "" "--secret <FILE>" dice

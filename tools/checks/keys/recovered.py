@@ -43,6 +43,10 @@ def refuse_keys(words, top, keys, texts, other):
         put(f"{keys}/{name}", texts[name])
     done = run(*words, f"{top}/lost/refused", "--keys", f"{top}/nowhere")
     right(done.returncode == 1 and "nowhere/match-x could not be read" in done.stderr, f"recover by no keys: {done}")
+    for seats, more in ((words[3:-1], ["--keys", ""]), (["--x", "", "--o", ""], [])):
+        done = run(*words[:3], *seats, "--dir", f"{top}/lost/refused", *more)
+        told = (2, "bg_relay: the name of a folder is empty\n")
+        right((done.returncode, done.stderr) == told, f"recover by a folder without a name: {done}")
     right(not os.path.exists(f"{top}/lost/refused"), "a recover that was refused made a folder")
 
 

@@ -41,6 +41,9 @@ def check_outputs(top):
     for option, path in (("--board", "pipe"), ("--transcript", "to-pipe"), ("--page", "empty")):
         check(f"an output that is no file, {path}", 2, "", f"{top}/{path} is no regular file: name another one", "watch",
               "--match", f"{top}/bad", option, f"{top}/{path}")
+    for option in ("--board", "--transcript", "--page"):
+        check(f"an output without a name, {option}", 2, "", "bg_relay: the name of a file is empty", "watch", "--match",
+              f"{top}/bad", option, "")
     check("three files for three outputs", 2, "", "is no key file", "watch", "--match", f"{top}/bad", *outputs)
 
 
