@@ -2,7 +2,7 @@
 
 use crate::attempts::done_at;
 use bg_console::{
-    allocated, failed, has_key_secret, own_folder, path_in, without_slashes, written, wrong,
+    allocated, failed, has_key_secret, own_folder, path_in, say_of, without_slashes, written, wrong,
 };
 use bg_dice::{Digest, digest_of, told_text, write_digest};
 use bg_reports::Ending;
@@ -23,6 +23,10 @@ const HOLDERS: [(u8, &str); 3] = [
     (SEAT_OF_O, "O"),
     (FIRST_WATCHER, "whoever may watch"),
 ];
+
+/// The message on a folder whose match was made, where that could not be printed.
+const MADE: &str =
+    " has the match all the same, with its key files, and the SHA-256 of the dice in `dice`: don't run this again";
 
 /// Creates the folder where it is missing, and locks it. Ends with `WrongArguments` where it has
 /// files of a match, and with `Failed` where it can't be locked.
@@ -127,6 +131,19 @@ pub(crate) fn tell_kept_keys(rt: &HostRuntime) -> Result<(), Ending> {
         "the keys are kept: X, O and the watchers continue with the key files that they have"
     );
     written(rt, told)
+}
+
+/// Returns the result of telling of the new match in a folder. Where that failed, reports that the
+/// match was made.
+pub(crate) fn told_of(
+    rt: &HostRuntime,
+    folder: &str,
+    attempt: Result<(), Ending>,
+) -> Result<(), Ending> {
+    if attempt.is_err() {
+        say_of(rt, folder, MADE);
+    }
+    attempt
 }
 
 /// Refuses a folder that has files of a match.

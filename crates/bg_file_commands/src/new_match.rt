@@ -2,7 +2,7 @@
 
 use crate::new_folders::{
     begin_folder, derived_keys, end_folder, make_secret_of_dice, make_secret_of_keys, tell_dice,
-    tell_key_files,
+    tell_key_files, told_of,
 };
 use crate::played_by::tell_commands;
 use crate::ports_beside::check_ports;
@@ -29,11 +29,23 @@ pub fn run(rt: &HostRuntime, options: NewOptions<'_>, called: &str) -> Result<En
         ..
     } = options;
     let (table, digest) = make_match(rt, terms, port, names, folder)?;
+    told_of(rt, folder, tell(rt, table, &digest, called, folder))?;
+    Ok(Ending::Served)
+}
+
+/// Prints the line of a match, whose the key files in its folder are, how it is played by a program
+/// that is called by this name, and the SHA-256 of the secret of its dice.
+fn tell(
+    rt: &HostRuntime,
+    table: MatchFile,
+    digest: &Digest,
+    called: &str,
+    folder: &str,
+) -> Result<(), Ending> {
     written(rt, rt.print(table))?;
     tell_key_files(rt, folder)?;
     tell_commands(rt, called, folder)?;
-    tell_dice(rt, &digest)?;
-    Ok(Ending::Served)
+    tell_dice(rt, digest)
 }
 
 /// Makes the folder of a match. The port is checked before the folder is made, so that nothing is

@@ -4,7 +4,7 @@ use crate::attempts::done_at;
 use crate::held_records::{Held, seat_of};
 use crate::new_folders::{
     begin_folder, derived_keys, end_folder, make_secret_of_dice, make_secret_of_keys,
-    remove_secret_of_keys, tell_dice, tell_kept_keys, tell_key_files,
+    remove_secret_of_keys, tell_dice, tell_kept_keys, tell_key_files, told_of,
 };
 use bg_board::Player;
 use bg_console::{
@@ -113,19 +113,20 @@ fn make(
 ) -> Result<(), Ending> {
     let _lock = begin_folder(rt, folder)?;
     let digest = make_secret_of_dice(rt, folder)?;
-    match kept {
+    let told = match kept {
         Some(keys) => {
             remove_secret_of_keys(rt, folder)?;
             fill(rt, file, folder, keys, longest)?;
-            tell_kept_keys(rt)?;
+            tell_kept_keys(rt)
         }
         None => {
             make_secret_of_keys(rt, folder)?;
             fill(rt, file, folder, &derived_keys(rt, folder, file)?, longest)?;
-            tell_key_files(rt, folder)?;
+            tell_key_files(rt, folder)
         }
-    }
-    tell_dice(rt, &digest)
+    };
+    told_of(rt, folder, told)?;
+    told_of(rt, folder, tell_dice(rt, &digest))
 }
 
 /// Writes the first save with this record, and the keys. The match file comes last, so that where

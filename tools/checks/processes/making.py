@@ -38,6 +38,7 @@ def check_new(room):
     check_random(room.top, Match(table))
     check_made(room, table, made)
     check_called(room)
+    check_untold(room)
     check_arguments(room.top, table)
 
 
@@ -68,6 +69,26 @@ def check_called(room):
         done = subprocess.run([name, "new", "--length", "1", "--port", str(room.port), "--dir", folder],
                               executable=PROGRAM, capture_output=True, text=True, check=False)
         right(commands_of(folder, called) in done.stdout, f"called {name!r}: {done}")
+
+
+def check_untold(room):
+    """Where what is printed of a match that is made, or made again, can't be written, it is said that the match is there."""
+    if not os.access("/dev/full", os.W_OK):
+        return
+    top = f"{room.top}/untold"
+    for name in "xo":
+        os.makedirs(f"{top}/{name}")
+    new = ["new", "--length", "1", "--port", str(room.port), "--dir", f"{top}/new/table"]
+    recover = ["recover", "--match", f"{top}/new/table/match", "--x", f"{top}/x", "--o", f"{top}/o", "--dir",
+               f"{top}/recover/table"]
+    for words in (new, recover):
+        with open("/dev/full", "wb") as full:
+            done = subprocess.run([PROGRAM, *words], stdout=full, stderr=subprocess.PIPE, text=True, check=False)
+        told = f"bg_relay: {words[-1]} has the match all the same, with its key files, and the SHA-256 of the dice in `dice`: "
+        lines = done.stderr.splitlines()
+        right(done.returncode == 1 and lines[-1:] == [f"{told}don't run this again"], f"{words[0]} onto a full device: {done}")
+        names = {"match", "match-x", "match-o", "match-watch", "dice"}
+        right(names <= set(os.listdir(words[-1])), f"{words[0]} made {os.listdir(words[-1])}")
 
 
 def check_arguments(top, table):
