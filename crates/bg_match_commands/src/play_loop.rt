@@ -11,7 +11,7 @@ use bg_options::LoopOptions;
 use bg_processes::{Failures, play_loop};
 use bg_reports::Ending;
 use bg_streams::Writing;
-use bg_world::{Outcome, RestoreCause, WorldFault};
+use bg_world::WorldFault;
 use std::{fs, io};
 
 /// Plays the match that the options name.
@@ -52,7 +52,7 @@ pub fn run(
     };
     match result {
         Ok(()) => Ok(Ending::Simulated),
-        Err(LoopFault::Stopped(outcome)) => Err(loop_stopped(rt, saves, &outcome)),
+        Err(LoopFault::Stopped(outcome)) => Err(stopped(rt, saves, &outcome)),
         Err(fault) => Err(loop_failed(rt, fault, output.error())),
     }
 }
@@ -68,15 +68,6 @@ fn check_no_match(rt: &HostRuntime, folder: &str) -> Result<(), Ending> {
         folder,
         " has a match between processes: give another --dir",
     ))
-}
-
-/// Reports why a party is down for good. A folder that has saves of another match is refused.
-fn loop_stopped(rt: &HostRuntime, saves: OwnSaves<'_>, outcome: &Outcome) -> Ending {
-    let ending = stopped(rt, saves, outcome);
-    match outcome {
-        Outcome::RestoreFault(RestoreCause::WrongMatch) => Ending::WrongArguments,
-        _ => ending,
-    }
 }
 
 /// Reports that the match ended with a fault, and the reason if writing failed.

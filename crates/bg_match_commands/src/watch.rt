@@ -95,8 +95,8 @@ fn audience_of(is_quiet: bool, is_watched: bool, is_drawn: bool) -> Audience {
     }
 }
 
-/// Refuses an output that has no name or is no regular file, and one file for two of the outputs, where each would
-/// replace the other.
+/// Refuses an output that has no name or is no regular file, and one file for two of the outputs,
+/// where each would replace the other.
 fn check_outputs(
     rt: &HostRuntime,
     board: Option<&str>,

@@ -63,7 +63,7 @@ try_later_rounds() {
 # try_other_matches (a folder of another match, to other points or by other rules, or open to others)
 try_other_matches() {
     local theirs other
-    check "a folder of another match" 2 "" "restore fault: wrong match" \
+    check "a folder of another match" 1 "" "restore fault: wrong match" \
         loop --seed 8 --length 1 --rounds 1 --dir "$work/folder"
     theirs="bg_relay: $work/folder has saves of the referee of match 7, length 1, rules 1; this call is of match"
     other="give another --dir, or --seed 7 --length 1 --rules 1"
@@ -73,10 +73,10 @@ try_other_matches() {
         loop --seed 7 --length 1 --rounds 1 --dir "$work/folder"
     said "a folder that is open to others" "bg_relay: $work/folder is open to other users: \`chmod 700\` closes it"
     chmod 700 "$work/folder"
-    check "a folder of a match to other points" 2 "" "restore fault: wrong match" \
+    check "a folder of a match to other points" 1 "" "restore fault: wrong match" \
         loop --seed 7 --length 2 --rounds 1 --dir "$work/folder"
     said "a folder of a match to other points" "$theirs 7, length 2, rules 1: $other" "restore fault: wrong match"
-    check "a folder of a match by other rules" 2 "" "restore fault: wrong match" \
+    check "a folder of a match by other rules" 1 "" "restore fault: wrong match" \
         loop --seed 7 --length 1 --rules 2 --rounds 1 --dir "$work/folder"
     said "a folder of a match by other rules" "$theirs 7, length 1, rules 2: $other" "restore fault: wrong match"
 }
@@ -93,7 +93,7 @@ try_other_folders() {
     if [ "$(ls "$work/table")" = match ]; then right; else wrong "a folder of a match: $(ls "$work/table")"; fi
     mkdir "$work/seats"
     cp "$work/folder/party-2.0" "$work/seats/party-1.0"
-    check "a folder with saves of the other seat" 2 "" "restore fault: wrong match" \
+    check "a folder with saves of the other seat" 1 "" "restore fault: wrong match" \
         loop --seed 7 --length 1 --rounds 1 --dir "$work/seats"
     seats="$work/seats has saves of player O of match 7, length 1, rules 1; this call is of match 7, length 1, rules 1"
     said "a folder with saves of the other seat" "bg_relay: $seats: give another --dir" "restore fault: wrong match"

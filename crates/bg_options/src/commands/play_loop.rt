@@ -16,8 +16,8 @@ how many entries each party holds, and the board. If standard error is a termina
 shown there once a second.
 
 Exit status: 0 for success; 1 if another process uses DIR, a socket can't be opened, the files
-can't be read or are damaged, or writing or memory failed; 2 if DIR is not a folder, or has files
-of another match.";
+can't be read, are damaged or of another match, or writing or memory failed; 2 if DIR is not a
+folder, or has a match between processes.";
 
 /// Number of rounds of a match over sockets, at most.
 const MOST_ROUNDS: u32 = 1_000_000;
