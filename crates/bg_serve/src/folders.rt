@@ -5,6 +5,7 @@ use crate::save_counts::SaveCounts;
 use crate::seat_files::read_seats;
 use crate::served_files::ServedFiles;
 use crate::served_keepers::ServedKeeper;
+use crate::unserved::{IN_USE, NO_MATCH_FILE, OTHER_DICE, Unserved, used};
 use bg_console::{FolderEntry, entries_in, path_in};
 use bg_dice::{digest_of, read_digest};
 use bg_match::{Record, Terms};
@@ -14,6 +15,7 @@ use bg_stores::{TurnSaves, TurnSlots, forget_change, is_hidden, quiet_minutes, t
 use bg_wire::{REFEREE, SEAT_OF_O, SEAT_OF_X};
 use bg_world::Keepers;
 use std::alloc::AllocError;
+use std::fs::TryLockError;
 use std::io;
 use std::io::ErrorKind;
 use std::rc::Rc;
@@ -82,15 +84,15 @@ impl<'a> FolderStore<'a> {
     pub(crate) fn find(
         &self,
         name: &str,
-    ) -> io::Result<Option<(Box<Found<ServedKeeper<'a>>>, Option<FolderLock>)>> {
+    ) -> Result<Option<(Box<Found<ServedKeeper<'a>>>, Option<FolderLock>)>, Unserved> {
         let path = path_in(self.rt.alloc(), self.folder, name)?;
         let Some(file) = self.match_in(path.as_str())? else {
             return Ok(None);
         };
-        let seats = read_seats(self.rt, path.as_str())?;
+        let seats = used("`seats`", read_seats(self.rt, path.as_str()))?;
         let lock = match seats {
             Some(_) => None,
-            None => Some(FolderLock::take(self.rt, path.as_str())?),
+            None => Some(lock_alone(self.rt, path.as_str())?),
         };
         let found = self.found(name, path.as_str(), file, seats)?;
         Ok(Some((Box::new(self.rt.alloc(), found)?, lock)))
@@ -139,32 +141,39 @@ impl<'a> FolderStore<'a> {
         let _ = forget_change(self.rt, self.folder, name);
     }
 
-    /// Returns the match file of a folder; `None` if it has none that can be read.
-    fn match_in(&self, path: &str) -> io::Result<Option<NamedMatch>> {
+    /// Returns the match file of a folder; `None` if there is no such file, or no folder.
+    fn match_in(&self, path: &str) -> Result<Option<NamedMatch>, Unserved> {
         let path = path_in(self.rt.alloc(), path, "match")?;
         match NamedMatch::read(self.rt, path.as_str()) {
-            Ok(file) => Ok(file),
-            Err(_) => Ok(None),
+            Ok(Some(file)) => Ok(Some(file)),
+            Ok(None) => Err(Unserved::Other(NO_MATCH_FILE)),
+            Err(error) => match error.kind() {
+                ErrorKind::NotFound | ErrorKind::NotADirectory => Ok(None),
+                _ => Err(Unserved::Part("`match`", error)),
+            },
         }
     }
 
     /// Returns the match of this name, with its keepers.
+    ///
+    /// # Errors
+    /// The reason why one of its files can't be read, or doesn't fit the others.
     pub(crate) fn found(
         &self,
         name: &str,
         path: &str,
         file: NamedMatch,
         seats: Option<Seats>,
-    ) -> io::Result<Found<ServedKeeper<'a>>> {
-        let key = read_secret(self.rt, path)?;
-        let digest = read_digest(self.rt, path)?;
+    ) -> Result<Found<ServedKeeper<'a>>, Unserved> {
+        let key = used("`secret`", read_secret(self.rt, path))?;
+        let digest = used("`dice`", read_digest(self.rt, path))?;
         if let Some(digest) = digest {
             if digest != digest_of(&key) {
-                return Err(io::Error::from(ErrorKind::InvalidData));
+                return Err(Unserved::Other(OTHER_DICE));
             }
         }
-        let is_hidden = is_hidden(self.rt, path)?;
-        let quiet_minutes = quiet_minutes(self.rt, path)?;
+        let is_hidden = used("folder", is_hidden(self.rt, path))?;
+        let quiet_minutes = used("folder", quiet_minutes(self.rt, path))?;
         // A match without seats may be played by other processes, which know of no database.
         let turn_of = seats.is_some().then_some(name);
         Ok(Found {
@@ -211,6 +220,15 @@ impl<'a> FolderStore<'a> {
         };
         let files = ServedFiles::new(self.rt, path, party, self.failures, slots, counts)?;
         Ok(ServedKeeper::over(files))
+    }
+}
+
+/// Locks the folder of a match over which other processes may play.
+fn lock_alone(rt: &HostRuntime, path: &str) -> Result<FolderLock, Unserved> {
+    match FolderLock::take(rt, path) {
+        Ok(lock) => Ok(lock),
+        Err(TryLockError::WouldBlock) => Err(Unserved::Other(IN_USE)),
+        Err(TryLockError::Error(error)) => Err(Unserved::Part("folder", error)),
     }
 }
 

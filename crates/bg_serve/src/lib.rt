@@ -44,6 +44,7 @@ mod sharing;
 mod sockets;
 mod tables;
 mod turns;
+mod unserved;
 mod updates;
 mod visitors;
 

@@ -85,7 +85,10 @@ impl<'a> FolderStore<'a> {
         seats: Seats,
     ) -> io::Result<Found<ServedKeeper<'a>>> {
         self.note_changed(name)?;
-        self.found(name, path, file, Some(seats))
+        match self.found(name, path, file, Some(seats)) {
+            Ok(found) => Ok(found),
+            Err(why) => Err(why.into_error()),
+        }
     }
 
     /// Makes the folder of a match, with its files. It has its name once all of them are there: a

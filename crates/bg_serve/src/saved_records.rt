@@ -2,11 +2,12 @@
 
 use crate::folders::FolderStore;
 use crate::notes::noted;
+use crate::unserved::{DAMAGED, OF_ANOTHER, Unserved, used};
 use bg_console::path_in;
-use bg_match::Record;
+use bg_match::{Record, Terms};
 use bg_processes::{MatchFile, read_saved};
-use bg_wire::{REFEREE, restore};
-use std::alloc::Global;
+use bg_wire::{REFEREE, RestoreRefusal, restore};
+use std::alloc::{AllocError, Global};
 use std::io;
 
 impl<'a> FolderStore<'a> {
@@ -19,6 +20,23 @@ impl<'a> FolderStore<'a> {
         let zero = self.saved_in(name, "party-0.0")?;
         let one = self.saved_in(name, "party-0.1")?;
         Ok(record_in(self.rt.alloc(), &zero, &one, file))
+    }
+
+    /// Refuses a match whose referee's saves can't be read, or are not of it. Without them it would
+    /// be shown as one that has just begun.
+    ///
+    /// # Errors
+    /// The reason why the match can't be served.
+    pub(crate) fn check_saves(&self, name: &str, id: u64, terms: Terms) -> Result<(), Unserved> {
+        let zero = used("`party-0.0`", self.saved_in(name, "party-0.0"))?;
+        let one = used("`party-0.1`", self.saved_in(name, "party-0.1"))?;
+        let (length, rules) = (terms.length, terms.rules);
+        match restore(self.rt.alloc(), &zero, &one, REFEREE, id, length, rules) {
+            Ok(_) => Ok(()),
+            Err(RestoreRefusal::Damaged) => Err(Unserved::Other(DAMAGED)),
+            Err(RestoreRefusal::WrongMatch) => Err(Unserved::Other(OF_ANOTHER)),
+            Err(RestoreRefusal::Memory) => Err(Unserved::from(AllocError)),
+        }
     }
 
     /// Reads the match file of a folder without the names; `None` if there is no match file.

@@ -10,6 +10,7 @@ use crate::settling::{CLUSTER, Unusable};
 use crate::sharing::run_shared;
 use crate::sockets::Sockets;
 use crate::tables::check_of_all;
+use crate::unserved::LeftOut;
 use bg_console::{failed, failed_or, own_folder, say};
 use bg_options::ServeOptions;
 use bg_processes::{Failures, Printable};
@@ -181,15 +182,10 @@ pub(crate) fn tell_begin(rt: &HostRuntime, server: &Server<'_>) {
     }
 }
 
-/// Logs which matches are left out.
-fn tell_left_out(rt: &HostRuntime, names: &[String]) {
-    for name in names.iter() {
-        say(
-            rt,
-            format_args!(
-                "the match in {name} is left out: it can't be read, or another process uses it"
-            ),
-        );
+/// Logs which matches are left out, and why.
+fn tell_left_out(rt: &HostRuntime, matches: &[LeftOut]) {
+    for one in matches.iter() {
+        one.why.tell(rt, one.name.as_str());
     }
 }
 

@@ -5,6 +5,7 @@ use crate::folders::FolderStore;
 use crate::served_keepers::ServedKeeper;
 use crate::sockets::Sockets;
 use crate::turns::Turns;
+use crate::unserved::{LeftOut, NO_ROOM, Unserved};
 use bg_processes::FolderLock;
 use bg_requests::is_name;
 use bg_site::{Site, Store};
@@ -19,8 +20,8 @@ use std::net::SocketAddr;
 #[derive(Drop)]
 pub struct Server<'a> {
     pub(crate) site: Site<ServedKeeper<'a>, FolderStore<'a>>,
-    /// The names of entries of the folder that look like matches, but can't be served.
-    left_out: Vec<String>,
+    /// The matches in the folder that can't be served.
+    left_out: Vec<LeftOut>,
     /// The locks of folders over which other processes might play.
     locks: Vec<FolderLock>,
     pub(crate) crowd: Crowd<'a>,
@@ -102,28 +103,34 @@ impl<'a> Server<'a> {
     /// that can't be served.
     fn open_all(&mut self) -> io::Result<()> {
         for entry in self.store().entries()? {
-            if is_name(entry.name.as_str()) && !self.open(entry.name.as_str())? {
-                self.left_out.push(entry.name)?;
+            let name = entry.name;
+            if is_name(name.as_str()) {
+                if let Some(why) = self.open(name.as_str())? {
+                    self.left_out.push(LeftOut { name, why })?;
+                }
             }
         }
         Ok(())
     }
 
-    /// Opens the match of a folder, if it has one, and keeps the lock of the folder. Returns false
-    /// if it can't be served, or there is no room for it.
-    pub(crate) fn open(&mut self, name: &str) -> io::Result<bool> {
+    /// Opens the match of a folder, if it has one, and keeps the lock of the folder. Returns why it
+    /// can't be served, if it can't.
+    pub(crate) fn open(&mut self, name: &str) -> io::Result<Option<Unserved>> {
         let (found, lock) = match self.store().find(name) {
             Ok(Some(found)) => found,
-            Ok(None) => return Ok(true),
-            Err(_) => return Ok(false),
+            Ok(None) => return Ok(None),
+            Err(why) => return Ok(Some(why)),
         };
+        if let Err(why) = self.store().check_saves(name, found.id, found.terms) {
+            return Ok(Some(why));
+        }
         if !self.site.open(Box::into_inner(found)) {
-            return Ok(false);
+            return Ok(Some(Unserved::Other(NO_ROOM)));
         }
         if let Some(lock) = lock {
             self.locks.push(lock)?;
         }
-        Ok(true)
+        Ok(None)
     }
 
     /// Returns how many of the operator's changes were taken in since the last call.
@@ -153,9 +160,9 @@ impl<'a> Server<'a> {
         self.site.len()
     }
 
-    /// Returns the folders whose matches are not served, because they can't be read, another
-    /// process plays over them, or there are too many.
-    pub fn left_out(&self) -> &[String] {
+    /// Returns the matches that are not served, because they can't be read, another process plays
+    /// over them, or there are too many.
+    pub(crate) fn left_out(&self) -> &[LeftOut] {
         &self.left_out
     }
 }

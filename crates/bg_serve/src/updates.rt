@@ -37,7 +37,9 @@ impl<'a> Server<'a> {
                 }
                 if is_name(name) {
                     self.store().note_new(name)?;
-                    self.open(name)?;
+                    if let Some(why) = self.open(name)? {
+                        why.tell(self.store().rt, name);
+                    }
                 }
                 Ok(())
             }
