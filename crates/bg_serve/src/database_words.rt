@@ -96,10 +96,22 @@ pub(crate) fn not_usable(rt: &HostRuntime, path: &str, error: Error) -> Ending {
             rt,
             format_args!("{path} is no database of a server: name a new file by --store"),
         ),
-        _ => failed(
-            rt,
-            format_args!("the database {path} can't be used: {error}"),
-        ),
+        _ => {
+            let remedy = remedy_of(error);
+            failed(
+                rt,
+                format_args!("the database {path} can't be used: {error}{remedy}"),
+            )
+        }
+    }
+}
+
+/// Returns what to do about a database that can't be used, if that is known.
+fn remedy_of(error: Error) -> &'static str {
+    match error {
+        Error::SqliteFailure(ErrorCode::CannotOpen) =>
+            "; name a file in a folder that is there, and that it may write to",
+        _ => "",
     }
 }
 

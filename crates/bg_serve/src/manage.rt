@@ -1,9 +1,12 @@
 //! The command with which an operator changes the matches in a folder, even while they are served.
 
 use crate::database_words::settle_first;
+use crate::durable::sync;
 use crate::tables::{Tables, check_of_all};
 use bg_board::Player;
-use bg_console::{check_folder, check_out_folder, failed_at, failed_for, say, written, wrong};
+use bg_console::{
+    check_folder, check_out_folder, failed_at, failed_for, say, say_of, say_why, written, wrong,
+};
 use bg_options::{ManageOptions, Management};
 use bg_processes::{FolderLock, Printable};
 use bg_reports::Ending;
@@ -15,6 +18,17 @@ use std::path::Path;
 /// The message if the options name nothing to do, or more than one thing.
 const NOTHING: &str =
     "give one of --hide, --show, --delete, --forget-names, --new-link, --backup and --restore";
+
+/// The messages on what can't be copied, and on what can't be restored.
+const NO_WHOLE_COPY: &str = " has no whole copy: name a new folder";
+
+const NOT_COPIED: &str =
+    " is not copied: its files are of no whole match (`bg_relay list` and `show` say how); put back a copy of them or move it away, and name a new folder";
+
+const NOT_RESTORED: &str =
+    " is not restored: its copy is of no whole match (`bg_relay list` and `show` say how); name a folder with another copy";
+
+const NO_COPIES: &str = " is no folder: name one that `manage --backup` made";
 
 /// Does what an operator wants with a match in a folder, or with all matches.
 pub fn run(rt: &HostRuntime, options: ManageOptions<'_>) -> Result<Ending, Ending> {
@@ -87,8 +101,21 @@ fn change(
             tell_server(rt, tables, name)?;
             tell_change(rt, wanted, secret.as_deref())
         }
-        Err(error) => Err(failed_at(rt, path.as_str(), " could not be changed", &error)),
+        Err(error) => Err(not_changed(rt, path.as_str(), wanted, &error)),
     }
+}
+
+/// Reports why a match could not be changed: its file that is malformed, if one is.
+fn not_changed(rt: &HostRuntime, path: &str, wanted: Management<'_>, error: &io::Error) -> Ending {
+    let words = match (wanted, error.kind()) {
+        (Management::NewLink(_), ErrorKind::InvalidData) =>
+            "/seats is damaged: nothing was changed; put back a copy of it",
+        (Management::ForgetNames, ErrorKind::InvalidData) =>
+            "/match is no match file: nothing was changed; put back a copy of it",
+        _ => return failed_at(rt, path, " could not be changed", error),
+    };
+    say_of(rt, path, words);
+    Ending::Failed
 }
 
 /// Prints the result of a change: the link of a seat, if it has a new one.
@@ -146,17 +173,40 @@ fn tell_server(rt: &HostRuntime, tables: Tables<'_>, name: &str) -> Result<(), E
     }
 }
 
-/// Copies all matches into a new folder.
+/// Copies all matches into a new folder. If some can't be copied, it reports why, copies the
+/// others, and ends with `Failed`.
 fn back_up(rt: &HostRuntime, tables: Tables<'_>, out: &str) -> Result<Ending, Ending> {
+    let names = begin_copies(rt, tables, out)?;
+    let (mut count, mut has_all) = (0u64, true);
+    for name in names.iter() {
+        if copy_out(rt, tables, out, name.as_str())? {
+            count = count.saturating_add(1);
+        } else {
+            has_all = false;
+        }
+    }
+    if let Err(error) = sync(rt, out) {
+        return Err(failed_at(rt, out, NO_WHOLE_COPY, &error));
+    }
+    written(rt, println!(rt; "matches copied: {count}"))?;
+    if has_all {
+        Ok(Ending::Served)
+    } else {
+        Err(Ending::Failed)
+    }
+}
+
+/// Makes a new folder for copies, and returns the names of the matches that are to be copied.
+fn begin_copies(rt: &HostRuntime, tables: Tables<'_>, out: &str) -> Result<Vec<String>, Ending> {
+    if out.is_empty() {
+        return Err(wrong(rt, "the name of a folder is empty"));
+    }
     match Path::new(out).parent() {
         Some(above) if !above.as_str().is_empty() => check_out_folder(rt, above.as_str())?,
         _ => {}
     }
-    match tables.back_up(out) {
-        Ok(count) => {
-            written(rt, println!(rt; "matches copied: {count}"))?;
-            Ok(Ending::Served)
-        }
+    match tables.begin_copies(out) {
+        Ok(names) => Ok(names),
         Err(error) if error.kind() == ErrorKind::AlreadyExists => {
             let shown = Printable(out);
             Err(wrong(
@@ -164,12 +214,29 @@ fn back_up(rt: &HostRuntime, tables: Tables<'_>, out: &str) -> Result<Ending, En
                 format_args!("{shown} is there already: name a new folder"),
             ))
         }
-        Err(error) => Err(failed_at(rt, out, " has no whole copy: name a new folder", &error)),
+        Err(error) => Err(failed_at(rt, out, NO_WHOLE_COPY, &error)),
     }
+}
+
+/// Copies a match into the folder of copies. Returns false, and reports why, if that can't be done.
+/// Ends with `Failed` if there is no room for any other either.
+fn copy_out(rt: &HostRuntime, tables: Tables<'_>, out: &str, name: &str) -> Result<bool, Ending> {
+    let Err(error) = tables.copy_out(out, name) else {
+        return Ok(true);
+    };
+    match error.kind() {
+        ErrorKind::StorageFull | ErrorKind::QuotaExceeded => {
+            return Err(failed_at(rt, out, NO_WHOLE_COPY, &error));
+        }
+        ErrorKind::Interrupted => say_of(rt, name, NOT_COPIED),
+        _ => say_why(rt, name, " could not be copied", &error),
+    }
+    Ok(false)
 }
 
 /// Copies a match back.
 fn restore(rt: &HostRuntime, tables: Tables<'_>, from: &str, name: &str) -> Result<Ending, Ending> {
+    check_folder(rt, from, NO_COPIES)?;
     match tables.is_kept_in(from, name) {
         Ok(true) => {}
         Ok(false) => return Err(no_match(rt, from, name)),
@@ -188,6 +255,7 @@ fn restore(rt: &HostRuntime, tables: Tables<'_>, from: &str, name: &str) -> Resu
 
 /// Copies back all matches that no longer exist.
 fn restore_all(rt: &HostRuntime, tables: Tables<'_>, from: &str) -> Result<Ending, Ending> {
+    check_folder(rt, from, NO_COPIES)?;
     let names = match tables.names_in(from) {
         Ok(names) => names,
         Err(error) => return Err(failed_at(rt, from, " could not be read", &error)),
@@ -210,6 +278,10 @@ fn put_back(rt: &HostRuntime, tables: Tables<'_>, from: &str, name: &str) -> Res
             Ok(true)
         }
         Ok(false) => Ok(false),
+        Err(error) if error.kind() == ErrorKind::Interrupted => {
+            say_of(rt, name, NOT_RESTORED);
+            Err(Ending::Failed)
+        }
         Err(error) => Err(failed_at(rt, name, " could not be restored", &error)),
     }
 }

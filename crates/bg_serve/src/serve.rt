@@ -11,7 +11,7 @@ use crate::sharing::run_shared;
 use crate::sockets::Sockets;
 use crate::tables::check_of_all;
 use crate::unserved::LeftOut;
-use bg_console::{failed, failed_or, own_folder, say};
+use bg_console::{failed, failed_or, own_folder, say, wrong};
 use bg_options::ServeOptions;
 use bg_processes::{Failures, Printable};
 use bg_reports::Ending;
@@ -29,6 +29,9 @@ const MORE_FILES: &str = "; allow it more open files (`ulimit -n`), and start it
 /// Serves the matches of a folder at a port of this machine until the process is ended. Logs each
 /// request if the options say so.
 pub fn run(rt: &HostRuntime, options: ServeOptions<'_>) -> Result<Ending, Ending> {
+    if let Some("") = options.database {
+        return Err(wrong(rt, "the name of a file is empty"));
+    }
     check_of_all(rt, options.folder)?;
     let _lock = own_folder(rt, options.folder)?;
     settle_first(rt, options.folder, options.database)?;

@@ -111,16 +111,21 @@ impl<'a> Tables<'a> {
         fs::remove_dir_all(self.rt, gone.as_str())
     }
 
-    /// Copies all matches durably into a new folder, and returns how many there are.
-    pub(crate) fn back_up(&self, out: &str) -> io::Result<u64> {
+    /// Makes a new folder for copies, and returns the names of the matches that are to be copied.
+    pub(crate) fn begin_copies(&self, out: &str) -> io::Result<Vec<String>> {
         DirBuilder::new().mode(OWNER_ALONE).create(self.rt, out)?;
-        let names = self.names_in(self.folder)?;
-        for name in names.iter() {
-            let to = path_in(self.rt.alloc(), out, name.as_str())?;
-            self.copy(self.folder, name.as_str(), to.as_str())?;
+        self.names_in(self.folder)
+    }
+
+    /// Copies a match durably into the new folder of copies. Leaves nothing of it there if it can't
+    /// be copied.
+    pub(crate) fn copy_out(&self, out: &str, name: &str) -> io::Result<()> {
+        let to = path_in(self.rt.alloc(), out, name)?;
+        let copied = self.copy(self.folder, name, to.as_str());
+        if copied.is_err() {
+            let _ = fs::remove_dir_all(self.rt, to.as_str());
         }
-        sync(self.rt, out)?;
-        Ok(names.len() as u64)
+        copied
     }
 
     /// Copies the match of this name in a folder durably into a new folder `to`.
