@@ -127,7 +127,8 @@ def refuse_databases(server, room):
     serve = ["serve", "--dir", other, "--port", str(server.port + 1), "--store"]
     refused([*serve, server.store], 1, f"another process has the database {server.store}: end it first")
     refused([*serve, text], 2, f"{text} is no database of a server: name a new file")
-    refused([*serve, os.path.join(room, "none", "saves.db")], 1, "none/saves.db can't be used: ")
+    refused([*serve, os.path.join(room, "none", "saves.db")], 1, "none/saves.db can't be used: ",
+            "; name a file in a folder that is there")
     server.kill()
     refused([*serve, server.store], 2, f"the database {server.store} has the saves of other matches: name a new file")
     right(".database" not in os.listdir(other), "a folder has a database that was refused")

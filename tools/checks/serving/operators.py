@@ -109,7 +109,7 @@ def refuse_to_manage(server, name, copies):
                                (("--backup", copies + "-again", "--match", name), 2, "leave out --match"),
                                (("--restore", copies, "--match", "none"), 2, "-copies has no match none"),
                                (("--restore", copies, "--match", "../x"), 2, "has no match ../x"),
-                               (("--restore", copies + "/none"), 1, "could not be read"),
+                               (("--restore", copies + "/none"), 2, "/none is no folder: name one that `manage --backup` made"),
                                (("--match", name, "--new-link", "Y"), 2, "invalid value")):
         ended, _, told = manage(server, *words)
         right(ended == status and why in told, f"manage {words} ended with {ended}: {told}")
