@@ -101,10 +101,10 @@ def harm(tables, names, whole):
 
 
 def lose_saves(server, whole):
-    """Makes of a match one in which nothing was saved yet: such a match is served."""
+    """Makes of a match another one, without seats, in which nothing was saved yet: such a match is served."""
     shutil.copytree(os.path.join(server.folder, whole), os.path.join(server.folder, "fresh"))
     for name in os.listdir(os.path.join(server.folder, "fresh")):
-        if name.startswith("party-"):
+        if name.startswith("party-") or name == "seats":
             os.remove(os.path.join(server.folder, "fresh", name))
     return "fresh"
 
