@@ -5,7 +5,7 @@ use crate::save_counts::SaveCounts;
 use crate::seat_files::read_seats;
 use crate::served_files::ServedFiles;
 use crate::served_keepers::ServedKeeper;
-use crate::unserved::{IN_USE, NO_MATCH_FILE, OTHER_DICE, Unserved, used};
+use crate::unserved::{Part, Unserved, used};
 use bg_console::{FolderEntry, entries_in, path_in};
 use bg_dice::{digest_of, read_digest};
 use bg_match::{Record, Terms};
@@ -89,13 +89,16 @@ impl<'a> FolderStore<'a> {
         let Some(file) = self.match_in(path.as_str())? else {
             return Ok(None);
         };
-        let seats = used("`seats`", read_seats(self.rt, path.as_str()))?;
+        let seats = used(Part::Seats, read_seats(self.rt, path.as_str()))?;
         let lock = match seats {
             Some(_) => None,
             None => Some(lock_alone(self.rt, path.as_str())?),
         };
         let found = self.found(name, path.as_str(), file, seats)?;
-        Ok(Some((Box::new(self.rt.alloc(), found)?, lock)))
+        match Box::new(self.rt.alloc(), found) {
+            Ok(found) => Ok(Some((found, lock))),
+            Err(_) => Err(Unserved::from(AllocError)),
+        }
     }
 
     /// Returns what the operator may have changed in the match of this name; `None` if it no longer
@@ -146,10 +149,10 @@ impl<'a> FolderStore<'a> {
         let path = path_in(self.rt.alloc(), path, "match")?;
         match NamedMatch::read(self.rt, path.as_str()) {
             Ok(Some(file)) => Ok(Some(file)),
-            Ok(None) => Err(Unserved::Other(NO_MATCH_FILE)),
+            Ok(None) => Err(Unserved::NoMatchFile),
             Err(error) => match error.kind() {
                 ErrorKind::NotFound | ErrorKind::NotADirectory => Ok(None),
-                _ => Err(Unserved::Part("`match`", error)),
+                _ => Err(Unserved::Part(Part::Match, error)),
             },
         }
     }
@@ -165,15 +168,15 @@ impl<'a> FolderStore<'a> {
         file: NamedMatch,
         seats: Option<Seats>,
     ) -> Result<Found<ServedKeeper<'a>>, Unserved> {
-        let key = used("`secret`", read_secret(self.rt, path))?;
-        let digest = used("`dice`", read_digest(self.rt, path))?;
+        let key = used(Part::Secret, read_secret(self.rt, path))?;
+        let digest = used(Part::Dice, read_digest(self.rt, path))?;
         if let Some(digest) = digest {
             if digest != digest_of(&key) {
-                return Err(Unserved::Other(OTHER_DICE));
+                return Err(Unserved::OtherDice);
             }
         }
-        let is_hidden = used("folder", is_hidden(self.rt, path))?;
-        let quiet_minutes = used("folder", quiet_minutes(self.rt, path))?;
+        let is_hidden = used(Part::Folder, is_hidden(self.rt, path))?;
+        let quiet_minutes = used(Part::Folder, quiet_minutes(self.rt, path))?;
         // A match without seats may be played by other processes, which know of no database.
         let turn_of = seats.is_some().then_some(name);
         Ok(Found {
@@ -227,8 +230,8 @@ impl<'a> FolderStore<'a> {
 fn lock_alone(rt: &HostRuntime, path: &str) -> Result<FolderLock, Unserved> {
     match FolderLock::take(rt, path) {
         Ok(lock) => Ok(lock),
-        Err(TryLockError::WouldBlock) => Err(Unserved::Other(IN_USE)),
-        Err(TryLockError::Error(error)) => Err(Unserved::Part("folder", error)),
+        Err(TryLockError::WouldBlock) => Err(Unserved::InUse),
+        Err(TryLockError::Error(error)) => Err(Unserved::Part(Part::Folder, error)),
     }
 }
 

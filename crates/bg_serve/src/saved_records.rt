@@ -2,11 +2,11 @@
 
 use crate::folders::FolderStore;
 use crate::notes::noted;
-use crate::unserved::{DAMAGED, OF_ANOTHER, Unserved, used};
+use crate::unserved::{Part, Unserved, used};
 use bg_console::path_in;
 use bg_match::{Record, Terms};
 use bg_processes::{MatchFile, read_saved};
-use bg_wire::{REFEREE, RestoreRefusal, restore};
+use bg_wire::{REFEREE, RestoreRefusal, Slot, restore};
 use std::alloc::{AllocError, Global};
 use std::io;
 
@@ -28,13 +28,13 @@ impl<'a> FolderStore<'a> {
     /// # Errors
     /// The reason why the match can't be served.
     pub(crate) fn check_saves(&self, name: &str, id: u64, terms: Terms) -> Result<(), Unserved> {
-        let zero = used("`party-0.0`", self.saved_in(name, "party-0.0"))?;
-        let one = used("`party-0.1`", self.saved_in(name, "party-0.1"))?;
+        let zero = used(Part::Save(Slot::Zero), self.saved_in(name, "party-0.0"))?;
+        let one = used(Part::Save(Slot::One), self.saved_in(name, "party-0.1"))?;
         let (length, rules) = (terms.length, terms.rules);
         match restore(self.rt.alloc(), &zero, &one, REFEREE, id, length, rules) {
             Ok(_) => Ok(()),
-            Err(RestoreRefusal::Damaged) => Err(Unserved::Other(DAMAGED)),
-            Err(RestoreRefusal::WrongMatch) => Err(Unserved::Other(OF_ANOTHER)),
+            Err(RestoreRefusal::Damaged) => Err(Unserved::Damaged),
+            Err(RestoreRefusal::WrongMatch) => Err(Unserved::OfAnother),
             Err(RestoreRefusal::Memory) => Err(Unserved::from(AllocError)),
         }
     }

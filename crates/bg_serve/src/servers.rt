@@ -5,7 +5,7 @@ use crate::folders::FolderStore;
 use crate::served_keepers::ServedKeeper;
 use crate::sockets::Sockets;
 use crate::turns::Turns;
-use crate::unserved::{LeftOut, NO_ROOM, Unserved};
+use crate::unserved::{LeftOut, Unserved};
 use bg_processes::FolderLock;
 use bg_requests::is_name;
 use bg_site::{Site, Store};
@@ -125,7 +125,7 @@ impl<'a> Server<'a> {
             return Ok(Some(why));
         }
         if !self.site.open(Box::into_inner(found)) {
-            return Ok(Some(Unserved::Other(NO_ROOM)));
+            return Ok(Some(Unserved::NoRoom));
         }
         if let Some(lock) = lock {
             self.locks.push(lock)?;
