@@ -52,17 +52,13 @@ const CALLED: &[(&str, &str, &str, &str)] = &[
 ];
 
 fn check_called(rt: &(impl AllocGlobal + Abort)) {
-    for (x, o, called, pairing) in CALLED {
-        check_calls(rt, &names_of(rt, x, o), called, pairing);
+    for &(x, o, called, pairing) in CALLED {
+        let names = names_of(rt, x, o);
+        let found = called_of(rt, &names);
+        check(rt, found == called, found);
+        let found = pairing_of(rt, &names);
+        check(rt, found == pairing, found);
     }
-}
-
-/// Players with these names are called so, and so are both together.
-fn check_calls(rt: &(impl AllocGlobal + Abort), names: &Names, called: &str, pairing: &str) {
-    let found = called_of(rt, names);
-    check(rt, found == called, found);
-    let found = pairing_of(rt, names);
-    check(rt, found == pairing, found);
 }
 
 /// The title of a page of a match between these players.
